@@ -1,0 +1,70 @@
+-- `read` meets its contract: the refusals 1 and 2, and then the value lines over the rest of the text.
+use mathlib.Core.Path.{_≡_, sym, _∙_}
+use borrow.Author.Needs.{needs}
+use borrow.Author.Tests.{le-leb, lt-leb}
+use Rattle.reader.specs.Reading.{reading}
+use Rattle.reader.proofs.NamesLine.{names-read, names-broken}
+use Rattle.reader.proofs.read.Statement.{statement}
+use Rattle.reader.proofs.read.Tie as tie
+
+refusal-requires : tie.Need-refusal-requires
+refusal-requires c κs = search needs
+
+returns : tie.Need-returns
+unfolding reading
+returns c = rw (lt-leb _ _ (c .before .if1 .taken)) (c .refusal .ensures)
+
+names-line-requires : tie.Need-names-line-requires
+names-line-requires c κs = search needs
+
+enum-known-columns : tie.Need-enum-known-columns
+enum-known-columns c = search needs
+
+enum-told : tie.Need-enum-told
+enum-told c = search needs
+
+refusal-requires-2 : tie.Need-refusal-requires-2
+refusal-requires-2 c κs = search needs
+
+returns-2 : tie.Need-returns-2
+unfolding reading
+returns-2 c =
+    let d = c .before .before .before in
+    rw (le-leb _ _ (d .before .if1 .left), names-broken _ (sym (d .names-line .ensures) ∙ c .before .enum-told .given .1)) (c .refusal2 .ensures)
+
+sub-value-lines : tie.Need-sub-value-lines
+sub-value-lines c = names-read _ _ _ (sym (c .before .before .before .names-line .ensures) ∙ c .before .columns .given .1) .within
+
+part-value-lines-start : tie.Need-part-value-lines-start
+part-value-lines-start c = names-read _ _ _ (sym (c .before .before .before .names-line .ensures) ∙ c .before .columns .given .1) .within
+
+part-value-lines-end : tie.Need-part-value-lines-end
+part-value-lines-end c = search needs
+
+value-lines-requires : tie.Need-value-lines-requires
+value-lines-requires c κs = search needs
+
+returns-3 : tie.Need-returns-3
+unfolding reading
+returns-3 c =
+    let e = c .before .before .before in
+    let d = e .before .before in
+    let n = names-read _ _ _ (sym (d .names-line .ensures) ∙ e .columns .given .1) in
+    rw (le-leb _ _ (d .before .if1 .left), n .is, ← n .columns, ← n .rest) (c .value-lines .ensures)
+
+pub read-spec : {M : Type 1} → statement M
+read-spec =
+    tie.close
+    (tie.spec
+    refusal-requires
+    returns
+    names-line-requires
+    enum-known-columns
+    enum-told
+    refusal-requires-2
+    returns-2
+    sub-value-lines
+    part-value-lines-start
+    part-value-lines-end
+    value-lines-requires
+    returns-3)

@@ -1,0 +1,5 @@
+pub mod Lines
+pub mod Value
+pub mod Names
+pub mod Reading
+pub mod Parts

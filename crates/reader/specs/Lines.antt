@@ -1,0 +1,38 @@
+-- Lines of a text and fields of a line: document 01, "The table as text".
+use Prim.Native.Nat.{ℕ, zero, suc}
+use mathlib.Core.List.{List, [], _∷_}
+use mathlib.Core.Bool.{Bool, false, cond, _||_}
+use lib.Dec.{eqb}
+
+-- "each line ends with one byte 10"
+abbrev pub lineEnd : ℕ
+lineEnd = 10
+
+-- "Fields are separated by one space"
+abbrev pub space : ℕ
+space = 32
+
+-- whether the byte b is in a text
+unfoldable pub has : ℕ → List ℕ → Bool
+has b [] = false
+has b (x ∷ s) = eqb x b || has b s
+
+-- what stands before the first byte b of a text: with byte 10 its first line
+unfoldable pub before : ℕ → List ℕ → List ℕ
+before b [] = []
+before b (x ∷ s) = cond (eqb x b) [] (x ∷ before b s)
+
+-- what stands after the first byte b of a text: with byte 10 "the rest of the text"
+unfoldable pub after : ℕ → List ℕ → List ℕ
+after b [] = []
+after b (x ∷ s) = cond (eqb x b) s (after b s)
+
+-- how many fields a line has: one more than its spaces
+unfoldable pub fieldCount : List ℕ → ℕ
+fieldCount [] = 1
+fieldCount (x ∷ l) = cond (eqb x space) (suc (fieldCount l)) (fieldCount l)
+
+-- the fields of a line, counted from 0
+unfoldable pub field : ℕ → List ℕ → List ℕ
+field zero l = before space l
+field (suc k) l = field k (after space l)

@@ -1,0 +1,52 @@
+-- The names line: document 01, "The table as text".
+use Prim.Native.Nat.{ℕ}
+use mathlib.Core.List.{List, [], _∷_}
+use mathlib.Core.Bool.{Bool, true, false, cond, _&&_}
+use lib.Dec.{eqb, ltb}
+use Rattle.reader.specs.Lines.{lineEnd, has, before, field, fieldCount}
+use Rattle.reader.specs.declared.names.Columns.{Columns}
+
+-- the bytes of "PERIOD", "BUDGET" and "DEADLINE"
+abbrev pub periodName : List ℕ
+periodName = 80 ∷ 69 ∷ 82 ∷ 73 ∷ 79 ∷ 68 ∷ []
+
+abbrev pub budgetName : List ℕ
+budgetName = 66 ∷ 85 ∷ 68 ∷ 71 ∷ 69 ∷ 84 ∷ []
+
+abbrev pub deadlineName : List ℕ
+deadlineName = 68 ∷ 69 ∷ 65 ∷ 68 ∷ 76 ∷ 73 ∷ 78 ∷ 69 ∷ []
+
+unfoldable pub sameBytes : List ℕ → List ℕ → Bool
+sameBytes [] [] = true
+sameBytes [] (y ∷ t) = false
+sameBytes (x ∷ s) [] = false
+sameBytes (x ∷ s) (y ∷ t) = eqb x y && sameBytes s t
+
+-- which of three fields, from 0, is the name; 3 where none is
+unfoldable pub columnIn : List ℕ → List ℕ → List ℕ → List ℕ → ℕ
+columnIn name first second third = cond (sameBytes first name) 0 (cond (sameBytes second name) 1 (cond (sameBytes third name) 2 3))
+
+-- which of three fields is each name
+unfoldable pub columnsIn : List ℕ → List ℕ → List ℕ → Columns
+columnsIn first second third =
+    record {
+      period = columnIn periodName first second third;
+      budget = columnIn budgetName first second third;
+      deadline = columnIn deadlineName first second third;
+    }
+
+-- each name is one of the three fields
+unfoldable pub eachNamed : Columns → Bool
+eachNamed c = ltb (c .period) 3 && ltb (c .budget) 3 && ltb (c .deadline) 3
+
+-- the columns of a names line
+unfoldable pub columnsOf : List ℕ → Columns
+columnsOf l = columnsIn (field 0 l) (field 1 l) (field 2 l)
+
+-- three fields, and each name is one of them: so "the three names once each"
+unfoldable pub threeNames : List ℕ → Bool
+threeNames l = eqb (fieldCount l) 3 && eachNamed (columnsOf l)
+
+-- a text begins with a names line, which is ended: what number 2 refuses otherwise
+unfoldable pub hasNamesLine : List ℕ → Bool
+hasNamesLine s = has lineEnd s && threeNames (before lineEnd s)

@@ -1,0 +1,58 @@
+// Prints what reading standard input gives, with the place of a refusal and every task: for tests.
+use libc::STDIN_FILENO;
+use libc::STDOUT_FILENO;
+use tasks::outcome::Outcome;
+use tasks::task::Task;
+
+// One more byte than a text may have, so that a longer one is seen to be too long.
+const ROOM: usize = 4_097;
+
+fn print_field(number: u32, end: &[u8]) {
+    io::print_decimal(STDOUT_FILENO, number as u64);
+    io::write_all(STDOUT_FILENO, end);
+}
+
+fn print_task(task: Task) {
+    print_field(task.period, b" ");
+    print_field(task.budget, b" ");
+    print_field(task.deadline, b"\n");
+}
+
+// All 32 entries, so that those past the count are seen too.
+fn print_tasks(tasks: [Task; 32]) {
+    let mut i: usize = 0;
+    while i < 32 {
+        print_task(tasks[i]);
+        i += 1;
+    }
+}
+
+fn print_outcome(outcome: Outcome) {
+    match outcome {
+        Outcome::Done => {
+            io::write_all(STDOUT_FILENO, b"READ\n");
+        }
+        Outcome::Refused { number, place } => {
+            io::write_all(STDOUT_FILENO, b"REFUSED ");
+            print_field(number, b" ");
+            print_field(place, b"\n");
+        }
+    }
+}
+
+fn print_reading(text: &[u8]) {
+    let answer = reader::read(text);
+    let outcome = answer.outcome;
+    let table = answer.table;
+    print_outcome(outcome);
+    io::print_decimal(STDOUT_FILENO, table.count as u64);
+    io::write_all(STDOUT_FILENO, b"\n");
+    let tasks = table.tasks;
+    print_tasks(tasks);
+}
+
+fn main() {
+    let mut space = [0u8; ROOM];
+    let n = io::read_full(STDIN_FILENO, &mut space);
+    print_reading(&space[..n]);
+}

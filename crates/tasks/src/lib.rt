@@ -1,0 +1,6 @@
+// Task tables: the types, limits and refusal numbers that every other crate names.
+pub mod limits;
+pub mod outcome;
+pub mod refusals;
+pub mod table;
+pub mod task;
