@@ -1,22 +1,21 @@
 -- A scan over the digits of a value. Others cite `Scanned` (the bytes so far are digits, and none ends the value) with its two laws, and what
 -- `valueBefore` is where the scan stops: `empty`, `leading`, `complete`, `no-digit`, `too-long` and `unended`.
-use Prim.Native.Nat.{ℕ, zero, suc, _+_, _-_, _*_, _^_, _≤_, _<_}
+use Prim.Native.Nat.{ℕ, suc, _+_, _-_, _*_, _^_, _≤_, _<_}
 use native.Mathlib.Nat.{pow-suc, pow-le-pow-right}
 use native.Mathlib.Numerals.{add-one}
 use native.Mathlib.Omega.{arith}
 use mathlib.Core.Path.{_≡_, refl, sym, ap, _∙_}
-use mathlib.Core.Bool.{Bool, true, false, cond, not, _&&_, and-false, and-true, and-assoc, false≢true}
+use mathlib.Core.Bool.{Bool, true, false, not, _&&_, and-false, and-true, and-assoc, false≢true}
 use mathlib.Core.List.{List, [], _∷_, _++_}
 use lib.Dec.{eqb, leb, ltb, lit<}
 use lib.ListN.{length, getD, take, drop, length-append}
 use lib.Seq.{drop-cons, take-suc, length-take-le, getD-take}
-use borrow.Author.Tests.{eq-eqb, ne-eqb, le-leb, lt-leb, lt-ltb, le-ltb, leb-true}
-use Rattle.reader.specs.declared.values.Value.{Value}
+use borrow.Author.Tests.{ne-eqb, le-leb, lt-leb, lt-ltb, le-ltb, leb-true}
 use Rattle.reader.specs.declared.values.Value.the-variants.{Read, Broken}
 use Rattle.reader.specs.Lines.{has, before}
 use Rattle.reader.specs.Value.{isDigit, allDigits, leadingZero, isValue, decimalFrom, decimal}
 use Rattle.reader.specs.Parts.{valueBefore}
-use Rattle.reader.proofs.Scan.{Passed, passed-none, passed-more, Met, met, missed, before-other}
+use Rattle.reader.proofs.Scan.{Passed, passed-none, passed-more, met, missed, before-other}
 
 -- the first i bytes of s are digits that make n, and none is b
 pub record Scanned (b : ℕ) (s : List ℕ) (n i : ℕ) : Type 0 where

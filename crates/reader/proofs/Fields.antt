@@ -1,12 +1,12 @@
 -- Laws of the fields of a line. Others cite `Three` (what a line of three fields is), `three`, and `not-one`, `not-two`, `not-four`.
-use Prim.Native.Nat.{ℕ, zero, suc, _+_, _≤_, _<_}
+use Prim.Native.Nat.{ℕ, suc, _≤_}
 use native.Mathlib.Omega.{arith}
-use mathlib.Core.Path.{_≡_, refl, sym, ap, _∙_}
+use mathlib.Core.Path.{_≡_, refl, sym}
 use mathlib.Core.Bool.{Bool, true, false, cond, _||_, false≢true}
 use mathlib.Core.List.{List, [], _∷_}
 use lib.Dec.{eqb}
 use borrow.Author.Tests.{ne-eqb}
-use Rattle.reader.specs.Lines.{space, has, before, after, fieldCount, field}
+use Rattle.reader.specs.Lines.{space, has, after, fieldCount, field}
 use Rattle.reader.proofs.Scan.{gone}
 
 -- a line with no space has one field

@@ -5,3 +5,4 @@ pub mod Fields
 pub mod NamesLine
 pub mod ValueLine
 pub mod ValueLines
+pub mod Small

@@ -10,7 +10,7 @@ use borrow.Author.Tests.{eq-eqb}
 use Rattle.reader.specs.declared.names.Columns.{Columns}
 use Rattle.reader.specs.declared.names.NamesLine.the-variants.{Read, Broken}
 use Rattle.reader.specs.Lines.{lineEnd, space, has, before, after, field, fieldCount}
-use Rattle.reader.specs.Names.{columnsIn, columnsOf, eachNamed, threeNames, hasNamesLine}
+use Rattle.reader.specs.Names.{columnsIn, columnsOf, eachNamed, threeNames, beginsWithNames}
 use Rattle.reader.specs.Parts.{namesIn, namesLine}
 use Rattle.reader.proofs.Scan.{here, part, cut}
 use Rattle.reader.proofs.Fields.{not-one, not-two, not-four, Three, three}
@@ -69,13 +69,13 @@ module _
 
 -- a names line that was read, and none
 pub record NamesRead (s : List ℕ) (k : Columns) (n : ℕ) : Type 0 where
-  pub is : hasNamesLine s ≡ true
+  pub is : beginsWithNames s ≡ true
   pub columns : k ≡ columnsOf (before lineEnd s)
   pub within : n ≤ length s
   pub rest : take (length s - n) (drop n s) ≡ after lineEnd s
 
 pub names-read : (s : List ℕ) (k : Columns) (n : ℕ) → namesLine s ≡ Read k n → NamesRead s k n
-unfolding namesLine namesIn hasNamesLine
+unfolding namesLine namesIn beginsWithNames
 names-read s k n e = go (has lineEnd s) (threeNames (before lineEnd s)) refl refl e
   where
     go :
@@ -88,8 +88,8 @@ names-read s k n e = go (has lineEnd s) (threeNames (before lineEnd s)) refl ref
     go true false p q e = let z : _≡_ {A = ℕ} 0 1 = cc in absurd (omega arith)
     go false u p q e = let z : _≡_ {A = ℕ} 0 1 = cc in absurd (omega arith)
 
-pub names-broken : (s : List ℕ) → namesLine s ≡ Broken → hasNamesLine s ≡ false
-unfolding namesLine namesIn hasNamesLine
+pub names-broken : (s : List ℕ) → namesLine s ≡ Broken → beginsWithNames s ≡ false
+unfolding namesLine namesIn beginsWithNames
 names-broken s e = go (has lineEnd s) (threeNames (before lineEnd s)) e
   where
     go :

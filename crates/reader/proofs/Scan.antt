@@ -1,6 +1,6 @@
 -- Laws of `has`, `before` and `after`. Others cite `here` (a byte is in a text: the text in three parts), `gone` (it is not), and `Passed`
 -- with its laws (a scan has passed the first bytes of a text and not met it).
-use Prim.Native.Nat.{ℕ, zero, suc, _+_, _-_, _≤_, _<_}
+use Prim.Native.Nat.{ℕ, suc, _+_, _-_, _≤_, _<_}
 use native.Mathlib.Nat.{lt-irrefl, not-le-of-lt, le-refl}
 use native.Mathlib.Numerals.{add-one}
 use native.Mathlib.Omega.{arith}

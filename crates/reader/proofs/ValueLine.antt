@@ -1,22 +1,22 @@
 -- A line of values, value by value. Others cite `line-of-three`: a text begins with a value line exactly when it begins with a value and a space, then
 -- again, then with a value and a byte 10; and `Fields`, what the line's fields then are.
-use Prim.Native.Nat.{ℕ, zero, suc, _+_, _-_, _≤_, _<_}
+use Prim.Native.Nat.{ℕ, zero, suc, _+_, _-_, _≤_}
 use native.Mathlib.Omega.{arith}
 use mathlib.Core.Path.{_≡_, refl, sym, ap, _∙_}
-use mathlib.Core.Bool.{Bool, true, false, cond, not, _&&_, _||_, and-false, and-true, and-assoc, false≢true}
+use mathlib.Core.Bool.{Bool, true, false, cond, not, _&&_, _||_, and-true, and-assoc, false≢true}
 use mathlib.Core.List.{List, [], _∷_, _++_, append-nil}
-use lib.Dec.{eqb, leb, ltb, eqb·suc-suc}
+use lib.Dec.{eqb, leb}
 use lib.ListN.{length, take, drop, length-append, length-drop}
-use borrow.Author.Tests.{eq-eqb, ne-eqb, eqb-true}
+use borrow.Author.Tests.{eq-eqb, eqb-true}
 use Rattle.reader.specs.Lines.{lineEnd, space, has, before, after, fieldCount, field}
 use Rattle.reader.specs.Value.{isDigit, allDigits, leadingZero, isValue}
-use Rattle.reader.specs.Reading.{threeValues, hasValueLine, taskOf}
+use Rattle.reader.specs.Reading.{threeValues, beginsWithValues, taskOf}
 use Rattle.reader.specs.Value.{decimalFrom, decimal}
 use Rattle.reader.specs.declared.names.Columns.{Columns}
 use Rattle.reader.specs.declared.values.Value.the-variants as Value
 use Rattle.reader.specs.declared.values.ValueLine.the-variants as Line
-use Rattle.reader.specs.Parts.{valueBefore, valueLine, pickIn}
-use Rattle.reader.proofs.Scan.{here, gone, gone-rest, part, Past, past, none-before}
+use Rattle.reader.specs.Parts.{valueBefore, valueLine, valueAt}
+use Rattle.reader.proofs.Scan.{here, gone, gone-rest, part, past, none-before}
 use Rattle.reader.proofs.Fields.{count-one, count-more, count-positive}
 
 -- both parts of a conjunction that holds
@@ -201,8 +201,8 @@ last-value s = both (lineOf 1 s) (has lineEnd s && isValue (before lineEnd s)) t
         })
 
 -- the value line of a text, as the tests of its reader
-tests : (s : List ℕ) → hasValueLine s ≡ lineOf 3 s
-unfolding hasValueLine threeValues field lineOf allValues
+tests : (s : List ℕ) → beginsWithValues s ≡ lineOf 3 s
+unfolding beginsWithValues threeValues field lineOf allValues
 tests s = simp (and-assoc, and-true)
 
 -- what reading a value gives
@@ -311,8 +311,8 @@ module _ (c : Columns) (s : List ℕ) (n k : ℕ) (v : valueBefore space s ≡ V
       after₃ : after space (after space (after space (before lineEnd s))) ≡ []
       after₃ = ap (after space) after₂ ∙ gone-rest space (before lineEnd (rest-of (rest-of s k) k′)) (no-space (before lineEnd (rest-of (rest-of s k) k′)) (v₃ .value))
 
-      pub picked : (i : ℕ) → decimal (field i (before lineEnd s)) ≡ pickIn i n n′ n″
-      unfolding field pickIn
+      pub picked : (i : ℕ) → decimal (field i (before lineEnd s)) ≡ valueAt i n n′ n″
+      unfolding field valueAt
       picked zero = ap decimal (s₁ .first) ∙ sym (v₁ .number)
       picked (suc zero) = ap decimal (ap (before space) after₁ ∙ s₂ .first) ∙ sym (v₂ .number)
       picked (suc (suc zero)) =
@@ -338,7 +338,7 @@ module _ (c : Columns) (s : List ℕ) (n k : ℕ) (v : valueBefore space s ≡ V
           omega
           (arith, first-fits, second-fits, fits lineEnd (rest-of (rest-of s k) k′) n″ k″ v₃, rest-length s k, rest-length (rest-of s k) k′)
 
-      pub whole : Line.Read (record { period = pickIn (c .period) n n′ n″; budget = pickIn (c .budget) n n′ n″; deadline = pickIn (c .deadline) n n′ n″ }) (k + k′ + k″) ≡ valueLine c s
+      pub whole : Line.Read (record { period = valueAt (c .period) n n′ n″; budget = valueAt (c .budget) n n′ n″; deadline = valueAt (c .deadline) n n′ n″ }) (k + k′ + k″) ≡ valueLine c s
       unfolding valueLine taskOf
       whole =
           rw (

@@ -2,7 +2,7 @@
 -- reading is where it stops: `finish`, `too-many`, `bad-line` and `bad-task`.
 use Prim.Native.Nat.{ℕ, zero, suc, _+_, _-_, _≤_, _<_}
 use native.Mathlib.Omega.{arith}
-use mathlib.Core.Path.{_≡_, refl, sym, ap, _∙_}
+use mathlib.Core.Path.{_≡_, refl, sym, _∙_}
 use mathlib.Core.Bool.{Bool, true, false, cond}
 use mathlib.Core.List.{List, [], _∷_}
 use lib.ListN.{length, set}
@@ -16,7 +16,7 @@ use Rattle.reader.specs.declared.names.Columns.{Columns}
 use Rattle.reader.specs.declared.values.ValueLine.the-variants.{Read, Broken}
 use Rattle.reader.specs.declared.Reading.{Reading}
 use Rattle.reader.specs.Lines.{lineEnd, has, before, after}
-use Rattle.reader.specs.Reading.{refused, threeValues, hasValueLine, taskOf, ended, nothing, valueLines}
+use Rattle.reader.specs.Reading.{refused, threeValues, beginsWithValues, taskOf, ended, isEmpty, valueLines}
 use Rattle.reader.specs.Parts.{valueLine}
 use Rattle.reader.proofs.Scan.{here, part}
 use Rattle.reader.proofs.ValueLine.{rest-of, rest-length, and-left}
@@ -31,42 +31,42 @@ pub begin : (c : Columns) (s : List ℕ) → Reading-on c (valueLines c maxTasks
 unfolding emptyTable
 begin c s = record { count = refl; within = omega arith; left = refl }
 
-empty : (s : List ℕ) → length s ≤ 0 → nothing s ≡ true
-unfolding nothing
+empty : (s : List ℕ) → length s ≤ 0 → isEmpty s ≡ true
+unfolding isEmpty
 empty [] h = refl
 empty (x ∷ s) h = absurd (omega arith)
 
-some : (s : List ℕ) → 0 < length s → nothing s ≡ false
-unfolding nothing
+some : (s : List ℕ) → 0 < length s → isEmpty s ≡ false
+unfolding isEmpty
 some [] h = absurd (omega arith)
 some (x ∷ s) h = refl
 
 -- a value line that was read
 record LineRead (c : Columns) (s : List ℕ) (k : Task) (n : ℕ) : Type 0 where
-  is : hasValueLine s ≡ true
+  is : beginsWithValues s ≡ true
   task : taskOf c (before lineEnd s) ≡ k
   rest : rest-of s n ≡ after lineEnd s
   some-bytes : 0 < n
   within : n ≤ length s
 
-ended-line : (s : List ℕ) → hasValueLine s ≡ true → has lineEnd s ≡ true
-unfolding hasValueLine
+ended-line : (s : List ℕ) → beginsWithValues s ≡ true → has lineEnd s ≡ true
+unfolding beginsWithValues
 ended-line s h = and-left (has lineEnd s) (threeValues (before lineEnd s)) h
 
 line-read : (c : Columns) (s : List ℕ) (k : Task) (n : ℕ) → valueLine c s ≡ Read k n → LineRead c s k n
 unfolding valueLine
-line-read c s k n e = go (hasValueLine s) refl e
+line-read c s k n e = go (beginsWithValues s) refl e
   where
-    go : (t : Bool) → hasValueLine s ≡ t → cond t (Read (taskOf c (before lineEnd s)) (length (before lineEnd s) + 1)) Broken ≡ Read k n → LineRead c s k n
+    go : (t : Bool) → beginsWithValues s ≡ t → cond t (Read (taskOf c (before lineEnd s)) (length (before lineEnd s) + 1)) Broken ≡ Read k n → LineRead c s k n
     go true h e =
         let q : n ≡ length (before lineEnd s) + 1 = cc in
         let l = here lineEnd s (ended-line s h) in
         record { is = h; task = cc; rest = part s n ∙ rw q (l .rest); some-bytes = omega arith; within = omega (arith, l .within) }
     go false h e = let z : _≡_ {A = ℕ} 0 1 = cc in absurd (omega arith)
 
-line-broken : (c : Columns) (s : List ℕ) → valueLine c s ≡ Broken → hasValueLine s ≡ false
+line-broken : (c : Columns) (s : List ℕ) → valueLine c s ≡ Broken → beginsWithValues s ≡ false
 unfolding valueLine
-line-broken c s e = go (hasValueLine s) e
+line-broken c s e = go (beginsWithValues s) e
   where
     go : (t : Bool) → cond t (Read (taskOf c (before lineEnd s)) (length (before lineEnd s) + 1)) Broken ≡ Broken → t ≡ false
     go true e = let z : _≡_ {A = ℕ} 0 1 = cc in absurd (omega arith)

@@ -17,12 +17,12 @@ unfoldable pub has : ℕ → List ℕ → Bool
 has b [] = false
 has b (x ∷ s) = eqb x b || has b s
 
--- what stands before the first byte b of a text: with byte 10 its first line
+-- what stands before the first byte b of a text, or all of it where there is none: with byte 10 the first line
 unfoldable pub before : ℕ → List ℕ → List ℕ
 before b [] = []
 before b (x ∷ s) = cond (eqb x b) [] (x ∷ before b s)
 
--- what stands after the first byte b of a text: with byte 10 "the rest of the text"
+-- what stands after the first byte b of a text, or nothing where there is none: with byte 10 "the rest of the text"
 unfoldable pub after : ℕ → List ℕ → List ℕ
 after b [] = []
 after b (x ∷ s) = cond (eqb x b) s (after b s)
@@ -32,7 +32,7 @@ unfoldable pub fieldCount : List ℕ → ℕ
 fieldCount [] = 1
 fieldCount (x ∷ l) = cond (eqb x space) (suc (fieldCount l)) (fieldCount l)
 
--- the fields of a line, counted from 0
+-- the fields of a line, counted from 0: empty past the last
 unfoldable pub field : ℕ → List ℕ → List ℕ
 field zero l = before space l
 field (suc k) l = field k (after space l)

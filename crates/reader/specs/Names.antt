@@ -48,5 +48,5 @@ unfoldable pub threeNames : List ℕ → Bool
 threeNames l = eqb (fieldCount l) 3 && eachNamed (columnsOf l)
 
 -- a text begins with a names line, which is ended: what number 2 refuses otherwise
-unfoldable pub hasNamesLine : List ℕ → Bool
-hasNamesLine s = has lineEnd s && threeNames (before lineEnd s)
+unfoldable pub beginsWithNames : List ℕ → Bool
+beginsWithNames s = has lineEnd s && threeNames (before lineEnd s)

@@ -1,13 +1,13 @@
 -- A table read from text: document 01, "The table as text" and "Why a call is not carried out".
 use Prim.Native.Nat.{ℕ, zero, suc, _+_}
 use mathlib.Core.List.{List, [], _∷_}
-use mathlib.Core.Bool.{Bool, true, false, cond, _&&_}
-use lib.Dec.{eqb, leb}
+use mathlib.Core.Bool.{Bool, true, false, cond, not, _&&_}
+use lib.Dec.{eqb, ltb}
 use lib.ListN.{length}
 use Rattle.tasks.specs.declared.task.Task.{Task}
 use Rattle.tasks.specs.declared.table.Table.{Table}
 use Rattle.tasks.specs.declared.outcome.Outcome.the-variants.{Done, Refused}
-use Rattle.tasks.specs.Limits.{maxTasks, maxText}
+use Rattle.tasks.specs.Limits.{maxTasks, maxTextLength}
 use Rattle.tasks.specs.Refusals.{textTooLong, badNamesLine, tooManyTasks, badValueLine, taskOutOfRange, noTask}
 use Rattle.tasks.specs.Task.{inRange}
 use Rattle.tasks.specs.Table.{emptyTable, withTask}
@@ -15,7 +15,7 @@ use Rattle.reader.specs.declared.names.Columns.{Columns}
 use Rattle.reader.specs.declared.Reading.{Reading}
 use Rattle.reader.specs.Lines.{lineEnd, has, before, after, field, fieldCount}
 use Rattle.reader.specs.Value.{isValue, decimal}
-use Rattle.reader.specs.Names.{columnsOf, hasNamesLine}
+use Rattle.reader.specs.Names.{columnsOf, beginsWithNames}
 
 -- "A refused reading hands back a table of zero tasks with all its numbers 0"
 unfoldable pub refused : ℕ → ℕ → Reading
@@ -26,8 +26,8 @@ unfoldable pub threeValues : List ℕ → Bool
 threeValues l = eqb (fieldCount l) 3 && isValue (field 0 l) && isValue (field 1 l) && isValue (field 2 l)
 
 -- a text begins with a value line, which is ended: what number 4 refuses otherwise
-unfoldable pub hasValueLine : List ℕ → Bool
-hasValueLine s = has lineEnd s && threeValues (before lineEnd s)
+unfoldable pub beginsWithValues : List ℕ → Bool
+beginsWithValues s = has lineEnd s && threeValues (before lineEnd s)
 
 -- the task of a line of values, which stand "in that order" of the names
 unfoldable pub taskOf : Columns → List ℕ → Task
@@ -38,26 +38,23 @@ taskOf c l =
 unfoldable pub ended : Table → Reading
 ended t = cond (eqb (t .count) 0) (refused noTask 0) (record { table = t; outcome = Done })
 
--- whether nothing follows
-unfoldable pub nothing : List ℕ → Bool
-nothing [] = true
-nothing (x ∷ s) = false
+unfoldable pub isEmpty : List ℕ → Bool
+isEmpty [] = true
+isEmpty (x ∷ s) = false
 
--- "Value lines go in turn, each through 3, 4, 5": c has the columns, n is how many tasks more the table t can have, and s is the rest of
--- the text
-unfoldable pub valueLines : Columns → ℕ → Table → List ℕ → Reading
-valueLines c zero t s = cond (nothing s) (ended t) (refused tooManyTasks (t .count + 1))
+-- "Value lines go in turn, each through 3, 4, 5", and "After each line, reading goes on with the rest of the text": c has the columns, t the
+-- tasks so far, n is how many more a table can have, and s is the rest of the text
+unfoldable pub valueLines : Columns → (n : ℕ) → Table → List ℕ → Reading
+valueLines c zero t s = cond (isEmpty s) (ended t) (refused tooManyTasks (t .count + 1))
 valueLines c (suc n) t s =
-    let line = before lineEnd s in
-    let place = t .count + 1 in
-    cond (nothing s) (ended t)
-    (cond (hasValueLine s)
-    (cond (inRange (taskOf c line)) (valueLines c n (withTask t (taskOf c line)) (after lineEnd s)) (refused taskOutOfRange place))
-    (refused badValueLine place))
+    let task = taskOf c (before lineEnd s) in
+    cond (isEmpty s) (ended t)
+    (cond (not (beginsWithValues s)) (refused badValueLine (t .count + 1))
+    (cond (not (inRange task)) (refused taskOutOfRange (t .count + 1)) (valueLines c n (withTask t task) (after lineEnd s))))
 
 -- what reading a text gives
 unfoldable pub reading : List ℕ → Reading
 reading s =
-    cond (leb (length s) maxText)
-    (cond (hasNamesLine s) (valueLines (columnsOf (before lineEnd s)) maxTasks emptyTable (after lineEnd s)) (refused badNamesLine 0))
-    (refused textTooLong 0)
+    cond (ltb maxTextLength (length s)) (refused textTooLong 0)
+    (cond (not (beginsWithNames s)) (refused badNamesLine 0)
+    (valueLines (columnsOf (before lineEnd s)) maxTasks emptyTable (after lineEnd s)))

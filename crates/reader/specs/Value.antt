@@ -20,7 +20,7 @@ leadingZero f = eqb (getD f 0 0) 48 && ltb 1 (length f)
 unfoldable pub isValue : List ℕ → Bool
 isValue f = leb 1 (length f) && leb (length f) 7 && not (leadingZero f) && allDigits f
 
--- the number that the digits of f go on to after those of n: "All numbers here are in base ten"
+-- the number of the digits f where those before them make n: "All numbers here are in base ten"
 unfoldable pub decimalFrom : ℕ → List ℕ → ℕ
 decimalFrom n [] = n
 decimalFrom n (b ∷ f) = decimalFrom (n * 10 + (b - 48)) f

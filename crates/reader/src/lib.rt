@@ -3,7 +3,7 @@ use crate::names::Columns;
 use crate::names::NamesLine;
 use crate::values::ValueLine;
 use tasks::limits::MAX_TASKS;
-use tasks::limits::MAX_TEXT;
+use tasks::limits::MAX_TEXT_LENGTH;
 use tasks::outcome::Outcome;
 use tasks::refusals::BAD_NAMES_LINE;
 use tasks::refusals::BAD_VALUE_LINE;
@@ -13,7 +13,7 @@ use tasks::refusals::TEXT_TOO_LONG;
 use tasks::refusals::TOO_MANY_TASKS;
 use tasks::table::Table;
 
-mod bytes;
+pub mod bytes;
 mod names;
 mod values;
 
@@ -82,7 +82,7 @@ fn value_lines(text: &[u8], columns: Columns) -> Reading
 pub fn read(text: &[u8]) -> Reading
     ensures { λ r. ⌜ r ≡ reading (now (text .entry)) ⌝ }
 {
-    if MAX_TEXT < text.len() {
+    if MAX_TEXT_LENGTH < text.len() {
         return refusal(TEXT_TOO_LONG, 0);
     }
     let NamesLine::Read { columns, length } = names::names_line(text) else {

@@ -3,7 +3,7 @@ use crate::names::Columns;
 use tasks::task::Task;
 ghost use mathlib.Core.Path.{_≡_};
 ghost use Rattle.reader.specs.Value.{isDigit};
-ghost use Rattle.reader.specs.Parts.{valueBefore, valueLine, pickIn};
+ghost use Rattle.reader.specs.Parts.{valueBefore, valueLine, valueAt};
 
 // The longest value, in digits.
 const MAX_DIGITS: usize = 7;
@@ -64,9 +64,9 @@ fn value_before(text: &[u8], end: u8) -> Value
     Value::Broken
 }
 
-// The number at a column of three: 0 at no column.
-fn pick(column: usize, first: u32, second: u32, third: u32) -> u32
-    ensures { λ r. ⌜ r ≡ pickIn column first second third ⌝ }
+// The value at a column of three, from 0: 0 at no column.
+fn value_at(column: usize, first: u32, second: u32, third: u32) -> u32
+    ensures { λ r. ⌜ r ≡ valueAt column first second third ⌝ }
 {
     if column == 0 {
         return first;
@@ -107,9 +107,9 @@ pub fn value_line(text: &[u8], columns: Columns) -> ValueLine
     else {
         return ValueLine::Broken;
     };
-    let period = pick(columns.period, first, second, third);
-    let budget = pick(columns.budget, first, second, third);
-    let deadline = pick(columns.deadline, first, second, third);
+    let period = value_at(columns.period, first, second, third);
+    let budget = value_at(columns.budget, first, second, third);
+    let deadline = value_at(columns.deadline, first, second, third);
     ValueLine::Read {
         task: Task {
             period,

@@ -2,3 +2,4 @@ pub mod Limits
 pub mod Refusals
 pub mod Task
 pub mod Table
+pub mod Check

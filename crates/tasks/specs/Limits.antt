@@ -1,4 +1,4 @@
--- The limits of document 01, "What belongs to it" and "The table as text".
+-- The upper limits of document 01, "What belongs to it" and "The table as text".
 use Prim.Native.Nat.{ℕ}
 
 -- "A table has 1 to 32 tasks"
@@ -14,5 +14,5 @@ abbrev pub maxPeriod : ℕ
 maxPeriod = 1_000_000
 
 -- "At most 4,096 bytes"
-abbrev pub maxText : ℕ
-maxText = 4_096
+abbrev pub maxTextLength : ℕ
+maxTextLength = 4_096

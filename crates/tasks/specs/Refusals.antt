@@ -1,44 +1,58 @@
 -- The numbers of document 01, "Why a call is not carried out".
 use Prim.Native.Nat.{ℕ}
 
+-- "0. The machine handed in is unsound"
 abbrev pub unsoundMachine : ℕ
 unsoundMachine = 0
 
+-- "1. The text has more than 4,096 bytes."
 abbrev pub textTooLong : ℕ
 textTooLong = 1
 
+-- "2. The names line is missing, is not ended, or is not the three names once each."
 abbrev pub badNamesLine : ℕ
 badNamesLine = 2
 
+-- "3. A 33rd task stands in the table"
 abbrev pub tooManyTasks : ℕ
 tooManyTasks = 3
 
+-- "4. A value line is not three well-formed values ended by byte 10."
 abbrev pub badValueLine : ℕ
 badValueLine = 4
 
+-- "5. A task breaks 1 ≤ C ≤ D ≤ T ≤ 1,000,000."
 abbrev pub taskOutOfRange : ℕ
 taskOutOfRange = 5
 
+-- "6. The table has no task."
 abbrev pub noTask : ℕ
 noTask = 6
 
+-- "7. m is not 1 to 16."
 abbrev pub coresOutOfRange : ℕ
 coresOutOfRange = 7
 
+-- "8. The task number is not in the table."
 abbrev pub noSuchTask : ℕ
 noSuchTask = 8
 
+-- "9. A release comes while the task's gap is above 0."
 abbrev pub releasedTooSoon : ℕ
 releasedTooSoon = 9
 
+-- "10. A release comes while the task's job is still open."
 abbrev pub jobStillOpen : ℕ
 jobStillOpen = 10
 
+-- "11. A finish comes for a closed task."
 abbrev pub jobNotOpen : ℕ
 jobNotOpen = 11
 
+-- "12. A join comes to a table of 32 tasks."
 abbrev pub tableFull : ℕ
 tableFull = 12
 
+-- "13. The table with the joining task is not admitted."
 abbrev pub notAdmitted : ℕ
 notAdmitted = 13

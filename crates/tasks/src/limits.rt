@@ -10,4 +10,4 @@ pub const MAX_CORES: u32 = 16;
 pub const MAX_PERIOD: u32 = 1_000_000;
 
 // The most bytes that a table's text has.
-pub const MAX_TEXT: usize = 4_096;
+pub const MAX_TEXT_LENGTH: usize = 4_096;

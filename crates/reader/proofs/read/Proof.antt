@@ -1,7 +1,7 @@
 -- `read` meets its contract: the refusals 1 and 2, and then the value lines over the rest of the text.
-use mathlib.Core.Path.{_≡_, sym, _∙_}
+use mathlib.Core.Path.{sym, _∙_}
 use borrow.Author.Needs.{needs}
-use borrow.Author.Tests.{le-leb, lt-leb}
+use borrow.Author.Tests.{le-ltb, lt-ltb}
 use Rattle.reader.specs.Reading.{reading}
 use Rattle.reader.proofs.NamesLine.{names-read, names-broken}
 use Rattle.reader.proofs.read.Statement.{statement}
@@ -12,7 +12,7 @@ refusal-requires c κs = search needs
 
 returns : tie.Need-returns
 unfolding reading
-returns c = rw (lt-leb _ _ (c .before .if1 .taken)) (c .refusal .ensures)
+returns c = rw (lt-ltb _ _ (c .before .if1 .taken)) (c .refusal .ensures)
 
 names-line-requires : tie.Need-names-line-requires
 names-line-requires c κs = search needs
@@ -30,7 +30,7 @@ returns-2 : tie.Need-returns-2
 unfolding reading
 returns-2 c =
     let d = c .before .before .before in
-    rw (le-leb _ _ (d .before .if1 .left), names-broken _ (sym (d .names-line .ensures) ∙ c .before .enum-told .given .1)) (c .refusal2 .ensures)
+    rw (le-ltb _ _ (d .before .if1 .left), names-broken _ (sym (d .names-line .ensures) ∙ c .before .enum-told .given .1)) (c .refusal2 .ensures)
 
 sub-value-lines : tie.Need-sub-value-lines
 sub-value-lines c = names-read _ _ _ (sym (c .before .before .before .names-line .ensures) ∙ c .before .columns .given .1) .within
@@ -50,7 +50,7 @@ returns-3 c =
     let e = c .before .before .before in
     let d = e .before .before in
     let n = names-read _ _ _ (sym (d .names-line .ensures) ∙ e .columns .given .1) in
-    rw (le-leb _ _ (d .before .if1 .left), n .is, ← n .columns, ← n .rest) (c .value-lines .ensures)
+    rw (le-ltb _ _ (d .before .if1 .left), n .is, ← n .columns, ← n .rest) (c .value-lines .ensures)
 
 pub read-spec : {M : Type 1} → statement M
 read-spec =

@@ -1,5 +1,4 @@
 -- `refusal` meets its contract.
-use mathlib.Core.Path.{_≡_}
 use borrow.Author.Needs.{needs}
 use Rattle.reader.specs.Reading.{refused}
 use Rattle.reader.proofs.refusal.Statement.{statement}

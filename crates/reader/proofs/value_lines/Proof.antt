@@ -1,6 +1,6 @@
 -- `value_lines` meets its contract. The invariant: what is left of the text settles the reading, with the tasks so far.
 use native.Mathlib.Omega.{arith}
-use mathlib.Core.Path.{_≡_, sym, _∙_}
+use mathlib.Core.Path.{sym, _∙_}
 use borrow.Author.Needs.{needs}
 use borrow.Author.Tests.{not-true, not-false}
 use lib.ListN.{length}

@@ -1,9 +1,7 @@
 -- `print_tasks` is safe and ends: its index stays below the 32 entries.
 use Prim.Native.Nat.{_-_, _≤_}
-use mathlib.Core.Path.{_≡_}
 use native.Mathlib.Omega.{arith}
 use borrow.Author.Needs.{needs}
-use lib.ListN.{length}
 use Rattle.reading.proofs.print_tasks.Statement.{statement}
 use Rattle.reading.proofs.print_tasks.Tie as tie
 

@@ -1,5 +1,4 @@
 -- `column_in` meets its contract: each test is what `same` says of the name and a field.
-use mathlib.Core.Path.{_≡_, sym, _∙_}
 use borrow.Author.Needs.{needs}
 use Rattle.reader.specs.Names.{columnIn}
 use Rattle.reader.proofs.names.column_in.Statement.{statement}

@@ -1,5 +1,5 @@
 use native.Mathlib.Nat.{le-of-lt}
-use mathlib.Core.Path.{_≡_, sym, _∙_}
+use mathlib.Core.Path.{sym, _∙_}
 use lib.Seq.{length-take-le}
 use Rattle.reader.proofs.Scan.{has-of, hasnt-of, cut}
 use Rattle.reader.proofs.NamesLine.{one-field, two-fields, four-fields, named, unnamed}

@@ -1,6 +1,6 @@
 -- `names_line` meets its contract.
 use native.Mathlib.Nat.{le-of-lt}
-use mathlib.Core.Path.{_≡_, sym, _∙_}
+use mathlib.Core.Path.{sym}
 use borrow.Author.Needs.{needs}
 use lib.Seq.{length-take-le}
 use Rattle.reader.specs.Parts.{namesLine}

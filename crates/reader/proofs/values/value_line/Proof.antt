@@ -95,14 +95,14 @@ returns-3 c =
     let d = c .before .before .before .before .before in
     no-third _ _ _ _ (given₁ (first-place d)) _ _ (given₂ d) (sym (c .before .before .value-before3 .ensures) ∙ c .enum-told3 .given .1)
 
-pick-requires : tie.Need-pick-requires
-pick-requires c κs = search needs
+value-at-requires : tie.Need-value-at-requires
+value-at-requires c κs = search needs
 
-pick-requires-2 : tie.Need-pick-requires-2
-pick-requires-2 c κs = search needs
+value-at-requires-2 : tie.Need-value-at-requires-2
+value-at-requires-2 c κs = search needs
 
-pick-requires-3 : tie.Need-pick-requires-3
-pick-requires-3 c κs = search needs
+value-at-requires-3 : tie.Need-value-at-requires-3
+value-at-requires-3 c κs = search needs
 
 -- the three parts lie within the text, whose length fits
 fit : (c : tie.After-third) → first-place (second-place c) .first .given .0 .1 .0 + second-place c .second .given .0 .1 .0 + c .third .given .0 .1 .0 < 2 ^ 64
@@ -121,7 +121,7 @@ returns-4 : tie.Need-returns-4
 returns-4 c =
     let e = c .before .before .before .before in
     let d = second-place e in
-    rw (c .before .before .pick .ensures, c .before .pick2 .ensures, c .pick3 .ensures)
+    rw (c .before .before .value-at .ensures, c .before .value-at2 .ensures, c .value-at3 .ensures)
     (whole _ _ _ _ (given₁ (first-place d)) _ _ (given₂ d) _ _ (given₃ e))
 
 pub value-line-spec : {M : Type 1} → statement M
@@ -146,9 +146,9 @@ value-line-spec =
     enum-known-third
     enum-told-3
     returns-3
-    pick-requires
-    pick-requires-2
-    pick-requires-3
+    value-at-requires
+    value-at-requires-2
+    value-at-requires-3
     add-t16
     add-t23
     returns-4)

@@ -1,0 +1,21 @@
+-- Going by cases, each as a function of what is to be done in either case.
+use Prim.Native.Nat.{ℕ, _≤_, _<_}
+use mathlib.Core.Path.{_≡_, refl, sym, subst}
+use mathlib.Core.Bool.{Bool, true, false}
+use native.Mathlib.Nat.{lt-of-not-le}
+use lib.Dec.{T}
+use native.Mathlib.Decide.{decLe, ℕ-discrete}
+
+pub by-order : {A : Type 0} (a b : ℕ) → (a ≤ b → A) → (b < a → A) → A
+by-order a b f g = elim (decLe a b) [ yes h ↦ f h | no h ↦ g (lt-of-not-le h) ]
+
+pub by-equal : {A : Type 0} (a b : ℕ) → (a ≡ b → A) → ((a ≡ b → ⊥) → A) → A
+by-equal a b f g = elim (ℕ-discrete a b) [ yes h ↦ f h | no h ↦ g h ]
+
+pub by-test : {A : Type 0} (t : Bool) → (t ≡ true → A) → (t ≡ false → A) → A
+by-test true f g = f refl
+by-test false f g = g refl
+
+pub not-both : {A : Type 0} (t : Bool) → t ≡ true → t ≡ false → A
+not-both true p q = absurd (subst T q tt)
+not-both false p q = absurd (subst T (sym p) tt)

@@ -1,0 +1,13 @@
+pub mod WellFormed
+pub mod Cases
+pub mod InterferenceLaws
+pub mod SumLaws
+pub mod WindowLaws
+pub mod Potential
+pub mod Invariant
+pub mod Release
+pub mod Finish
+pub mod Join
+pub mod Choice
+pub mod Slot
+pub mod NoSlack

@@ -1,0 +1,124 @@
+-- The laws of sums over the indexes below n, of sums that leave one index out, and of bits.
+use Prim.Native.Nat.{ℕ, zero, suc, _+_, _*_, _-_, _≤_, _<_}
+use mathlib.Core.Path.{_≡_, refl, ap, ap₂, subst}
+use mathlib.Core.Bool.{Bool, true, false}
+use native.Mathlib.Nat.{le-refl, add-zero, add-suc, not-suc-le-zero}
+use native.Mathlib.Omega.{arith}
+use borrow.Author.Tests.{eq-eqb, ne-eqb}
+use Rattle.edzl.specs.Window.{sumTo, others, bit}
+use Rattle.edzl.proofs.Cases.{by-equal, by-test}
+
+-- Below n, a property of the indexes below suc n.
+down : {P : ℕ → Type 0} (n : ℕ) → ((i : ℕ) → i < suc n → P i) → (i : ℕ) → i < n → P i
+down n h i l = h i (omega arith)
+
+module _ (f g : ℕ → ℕ) where
+  -- Functions that agree below n have the same sum.
+  pub sum-same : (n : ℕ) → ((i : ℕ) → i < n → f i ≡ g i) → sumTo n f ≡ sumTo n g
+  unfolding sumTo
+  sum-same zero h = refl
+  sum-same (suc n) h = ap₂ _+_ (sum-same n (down n h)) (h n (omega arith))
+
+  pub sum-monotone : (n : ℕ) → ((i : ℕ) → i < n → f i ≤ g i) → sumTo n f ≤ sumTo n g
+  unfolding sumTo
+  sum-monotone zero h = le-refl _
+  sum-monotone (suc n) h = omega (arith, sum-monotone n (down n h), h n (omega arith))
+
+  -- Pigeonhole: no term larger, and one smaller.
+  pub sum-strict : (n k : ℕ) → k < n → ((i : ℕ) → i < n → f i ≤ g i) → f k < g k → sumTo n f < sumTo n g
+  unfolding sumTo
+  sum-strict zero k l h s = absurd (not-suc-le-zero l)
+  sum-strict (suc n) k l h s =
+      by-equal k n
+      (λ e.
+      let last : f n < g n = subst (λ (j : ℕ). f j < g j) e s in
+      omega (arith, sum-monotone n (down n h), last))
+      (λ ne. omega (arith, sum-strict n k (omega arith) (down n h) s, h n (omega arith)))
+
+  pub sum-add : (n : ℕ) → sumTo n (λ i. f i + g i) ≡ sumTo n f + sumTo n g
+  unfolding sumTo
+  sum-add zero = refl
+  sum-add (suc n) = omega (arith, sum-add n)
+
+-- Where each term grows by what g gives it, and g gives m in all, the sum grows by m.
+pub sum-gain : (f g h : ℕ → ℕ) (n m : ℕ) → m ≤ sumTo n g → ((i : ℕ) → i < n → f i + g i ≤ h i) → sumTo n f + m ≤ sumTo n h
+sum-gain f g h n m given each =
+    omega (arith, sum-monotone (λ i. f i + g i) h n each, sum-add f g n)
+
+-- More terms, no smaller sum.
+sum-add-terms : (f : ℕ → ℕ) (n d : ℕ) → sumTo n f ≤ sumTo (n + d) f
+unfolding sumTo
+sum-add-terms f n zero = rw add-zero (le-refl _)
+sum-add-terms f n (suc d) = rw add-suc (omega (arith, sum-add-terms f n d))
+
+pub sum-longer : (f : ℕ → ℕ) (n p : ℕ) → n ≤ p → sumTo n f ≤ sumTo p f
+sum-longer f n p h =
+    let e : n + (p - n) ≡ p = omega arith in
+    rw e at (sum-add-terms f n (p - n))
+
+-- n terms, each at most b.
+pub sum-bound : (f : ℕ → ℕ) (b n : ℕ) → ((i : ℕ) → i < n → f i ≤ b) → sumTo n f ≤ n * b
+unfolding sumTo
+sum-bound f b zero h = omega arith
+sum-bound f b (suc n) h = omega (arith, sum-bound f b n (down n h), h n (omega arith))
+
+-- A sum that leaves k out: nothing stands at k, and f elsewhere.
+module _ (f : ℕ → ℕ) {i k : ℕ} where
+  pub others-at : i ≡ k → others k f i ≡ 0
+  unfolding others
+  others-at e = rw (eq-eqb i k e)
+
+  pub others-off : (i ≡ k → ⊥) → others k f i ≡ f i
+  unfolding others
+  others-off ne = rw (ne-eqb i k ne)
+
+-- Two such sums are compared at the other indexes only.
+module _ (f g : ℕ → ℕ) (k n : ℕ) where
+  pub others-same : ((i : ℕ) → i < n → (i ≡ k → ⊥) → f i ≡ g i) → sumTo n (others k f) ≡ sumTo n (others k g)
+  others-same h =
+      sum-same (others k f) (others k g) n λ i l.
+      by-equal i k
+      (λ e. omega (arith, others-at f e, others-at g e))
+      (λ ne. omega (arith, others-off f ne, others-off g ne, h i l ne))
+
+  pub others-monotone : ((i : ℕ) → i < n → (i ≡ k → ⊥) → f i ≤ g i) → sumTo n (others k f) ≤ sumTo n (others k g)
+  others-monotone h =
+      sum-monotone (others k f) (others k g) n λ i l.
+      by-equal i k
+      (λ e. omega (arith, others-at f e, others-at g e))
+      (λ ne. omega (arith, others-off f ne, others-off g ne, h i l ne))
+
+-- `sum-gain` where k is left out and gains nothing.
+pub others-gain : (f g h : ℕ → ℕ) (k n m : ℕ) →
+    m ≤ sumTo n g →
+    g k ≡ 0 →
+    ((i : ℕ) → i < n → (i ≡ k → ⊥) → f i + g i ≤ h i) →
+    sumTo n (others k f) + m ≤ sumTo n (others k h)
+others-gain f g h k n m given none each =
+    sum-gain (others k f) g (others k h) n m given λ i l.
+    by-equal i k
+    (λ e. omega (arith, others-at f e, others-at h e, ap g e))
+    (λ ne. omega (arith, others-off f ne, others-off h ne, each i l ne))
+
+-- Bits.
+pub bit-true : (t : Bool) → t ≡ true → bit t ≡ 1
+unfolding bit
+bit-true t e = rw e
+
+pub bit-false : (t : Bool) → t ≡ false → bit t ≡ 0
+unfolding bit
+bit-false t e = rw e
+
+pub bit-small : (t : Bool) → bit t ≤ 1
+bit-small t = by-test t (λ e. omega (arith, bit-true t e)) (λ e. omega (arith, bit-false t e))
+
+-- What implies another has no larger bit.
+pub bit-monotone : (t u : Bool) → (t ≡ true → u ≡ true) → bit t ≤ bit u
+bit-monotone t u h =
+    by-test t
+    (λ e. omega (arith, bit-small t, bit-true u (h e)))
+    (λ e. omega (arith, bit-false t e))
+
+-- No more are counted than there are.
+pub count-bound : (p : ℕ → Bool) (n : ℕ) → sumTo n (λ i. bit (p i)) ≤ n
+count-bound p n = omega (arith, sum-bound (λ i. bit (p i)) 1 n (λ i h. bit-small (p i)))

@@ -1,0 +1,2 @@
+pub mod TaskSet
+pub mod Window

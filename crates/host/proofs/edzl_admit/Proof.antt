@@ -1,0 +1,99 @@
+-- `edzl_admit` meets its contract.
+use Prim.Native.Nat.{_≤_}
+use native.Mathlib.Omega.{arith}
+use mathlib.Core.Path.{_≡_, refl, sym, ap, _∙_}
+use mathlib.Core.Bool.{Bool, true, false, cond}
+use mir.Val.{boolByte}
+use Rattle.tasks.specs.declared.outcome.Outcome.the-variants.{Refused}
+use Rattle.tasks.specs.Check.{checked}
+use Rattle.tasks.proofs.Small.{checked-below}
+use Rattle.reader.specs.declared.Reading.{Reading}
+use Rattle.reader.specs.Reading.{reading}
+use Rattle.reader.proofs.Small.{reading-below}
+use Rattle.judge.specs.Judge.{valuesOf}
+use Rattle.judge.proofs.Outcome.{outcome-is, refused-outcome, judged-values}
+use Rattle.host.specs.Host.{answerNumber, answerAfter, hostAnswer}
+use borrow.Author.Needs.{needs}
+use Rattle.host.proofs.edzl_admit.Statement.{statement}
+use Rattle.host.proofs.edzl_admit.Tie as tie
+
+-- a text that was refused
+refused : (c : tie.After-outcome) → reading (c .before .before .before .before .args .text .now) .outcome ≡ Refused (c .outcome .given .0 .0) (c .outcome .given .0 .1 .0)
+refused c = ap (λ (r : Reading). r .outcome) (sym (c .before .before .read .ensures)) ∙ c .outcome .given .1
+
+small : (c : tie.After-outcome) → c .outcome .given .0 .0 ≤ 6
+small c = reading-below _ _ _ (refused c)
+
+-- a table whose judging was refused
+told :
+    (c : tie.After-verdict)
+    → checked (c .before .before .before .before .before .before .read .result .table) (c .before .before .before .before .before .before .before .before .args .cores)
+    ≡ Refused (c .verdict .given .0 .0) (c .verdict .given .0 .1 .0)
+told c = refused-outcome _ _ _ _ (sym (ap valuesOf (c .verdict .given .1)) ∙ c .before .before .judge .ensures)
+
+bit-of : (b : Bool) → boolByte b ≡ cond b 1 0
+bit-of true = refl
+bit-of false = refl
+
+read-requires : tie.Need-read-requires
+read-requires c κs = search needs
+
+enum-known-outcome : tie.Need-enum-known-outcome
+enum-known-outcome c = search needs
+
+add-result : tie.Need-add-result
+add-result c = omega (arith, small (c .before))
+
+returns : tie.Need-returns
+unfolding hostAnswer answerAfter
+returns c = rw (refused (c .before))
+
+enum-told : tie.Need-enum-told
+enum-told c = search needs
+
+judge-requires : tie.Need-judge-requires
+judge-requires c κs = search needs
+
+enum-known-verdict : tie.Need-enum-known-verdict
+enum-known-verdict c = search needs
+
+add-result-2 : tie.Need-add-result-2
+add-result-2 c = omega (arith, checked-below _ _ _ _ (told (c .before)))
+
+enum-known-verdict-2 : tie.Need-enum-known-verdict-2
+enum-known-verdict-2 c = search needs
+
+cast-result : tie.Need-cast-result
+cast-result c = search needs
+
+returns-2 : tie.Need-returns-2
+unfolding hostAnswer answerAfter answerNumber
+returns-2 c =
+    let v = c .before in
+    let d = v .before .before .before .before in
+    rw (← d .before .before .read .ensures, d .enum-told .given .1, outcome-is (d .before .before .read .result .table) (d .before .before .before .before .args .cores), told v)
+
+returns-3 : tie.Need-returns-3
+unfolding hostAnswer answerAfter answerNumber
+returns-3 c =
+    let v = c .before in
+    let d = v .before .before .before .before in
+    let j = judged-values _ _ _ _ (sym (ap valuesOf (v .verdict2 .given .1)) ∙ v .before .before .judge .ensures) in
+    rw (← d .before .before .read .ensures, d .enum-told .given .1, j .outcome, j .admits-is) (bit-of (v .verdict2 .given .0 .1 .0))
+
+pub edzl-admit-spec : {M : Type 1} → statement M
+edzl-admit-spec =
+    tie.close
+    (tie.spec
+    read-requires
+    enum-known-outcome
+    add-result
+    returns
+    enum-told
+    judge-requires
+    enum-known-verdict
+    add-result-2
+    enum-known-verdict-2
+    cast-result
+    returns-2
+    returns-3)

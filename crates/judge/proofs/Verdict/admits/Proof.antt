@@ -1,0 +1,22 @@
+-- `Verdict::admits` meets its contract: in each case it is the definition's value.
+use Rattle.judge.specs.Judge.{refusedValues, valuesOf}
+use borrow.Author.Needs.{needs}
+use Rattle.judge.proofs.Verdict.admits.Statement.{statement}
+use Rattle.judge.proofs.Verdict.admits.Tie as tie
+
+enum-known-self : tie.Need-enum-known-self
+enum-known-self c = search needs
+
+enum-told : tie.Need-enum-told
+enum-told c = search needs
+
+returns : tie.Need-returns
+unfolding valuesOf refusedValues
+returns c = rw (c .before .self .given .1)
+
+returns-2 : tie.Need-returns-2
+unfolding valuesOf refusedValues
+returns-2 c = rw (c .enum-told .given .1)
+
+pub admits-spec : {M : Type 1} → statement M
+admits-spec = tie.close (tie.spec enum-known-self enum-told returns returns-2)

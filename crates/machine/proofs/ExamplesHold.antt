@@ -1,0 +1,84 @@
+-- The examples all hold, and demand 3's claim is not empty: it speaks of a release whose job runs and finishes.
+use Prim.Native.Nat.{ℕ, _-_, _≤_}
+use mathlib.Core.Path.{_≡_, refl}
+use mathlib.Core.Bool.{true}
+use mathlib.Core.List.{List, _∷_, _++_}
+use lib.ListN.{getD, take, drop, replicate}
+use native.Mathlib.Omega.{arith}
+use Rattle.tasks.specs.declared.table.Table.{Table}
+use Rattle.tasks.specs.declared.outcome.Outcome.the-variants.{Done}
+use Rattle.tasks.specs.Table.{zeroTask}
+use Rattle.judge.specs.Judge.{judged}
+use Rattle.machine.specs.Sound.{isDone}
+use Rattle.machine.specs.Slot.{noReport}
+use Rattle.machine.specs.Calls.{start}
+use Rattle.machine.specs.Play.{Entry, play}
+use Rattle.machine.specs.InTime.{saysRan, saysFinished, slotCount, tableAfter, joinedBy, closedBySlot, Promise}
+use Rattle.machine.specs.Cases.{tableOf, releases, example}
+use Rattle.machine.specs.Examples.{answers, refusalBefore, refusals, runnerCounts, sameNumbers, runIs, ignoredIs, many, whole, overtaken, ignored, examples, allTrue}
+use Rattle.machine.specs.declared.call.Call.{Call}
+use Rattle.machine.specs.declared.call.Call.the-variants.{Release, Slot}
+use Rattle.machine.proofs.Computing.{computing}
+use Rattle.machine.proofs.InTimeHolds.{promise}
+
+pub examples-hold : allTrue examples ≡ true
+unfolding computing answers refusalBefore refusals runnerCounts sameNumbers runIs ignoredIs many whole overtaken ignored examples allTrue
+examples-hold = refl
+
+-- an admitted table and calls whose log has what demand 3 speaks of
+pub record NotEmpty : Type 0 where
+  pub table : Table
+  pub cores : ℕ
+  pub calls : List Call
+  pub admitted : judged table cores .admits ≡ true
+  -- the log, cut at a release of the task with this number
+  pub number : ℕ
+  pub before : List Entry
+  pub entry : Entry
+  pub after : List Entry
+  pub log : play (start table cores .machine) calls ≡ before ++ entry ∷ after
+  pub called : entry .call ≡ Release number
+  pub released : isDone (entry .outcome) ≡ true
+  pub enough-slots : getD (tableAfter table before .tasks) (number - 1) zeroTask .deadline ≤ slotCount after
+  -- entries after it: a slot in which the task runs, and one that reports it finished
+  pub ran-at : ℕ
+  pub ran : saysRan number (getD after ran-at entry) ≡ true
+  pub finished-at : ℕ
+  pub finished : saysFinished number (getD after finished-at entry) ≡ true
+
+-- on 2 cores, the three tasks of "The table above" are released and eight slots follow; the release is that of task 3
+exampleCalls : List Call
+exampleCalls = releases 3 ++ replicate 8 Slot
+
+pub not-empty : NotEmpty
+unfolding computing answers exampleCalls saysRan saysFinished slotCount tableAfter joinedBy
+not-empty =
+    let entries = answers example 2 exampleCalls in
+    record {
+      table = tableOf example;
+      cores = 2;
+      calls = exampleCalls;
+      admitted = refl;
+      number = 3;
+      before = take 2 entries;
+      entry = record { call = Release 3; outcome = Done; report = noReport };
+      after = drop 3 entries;
+      log = refl;
+      called = refl;
+      released = refl;
+      enough-slots = omega arith;
+      ran-at = 1;
+      ran = refl;
+      finished-at = 6;
+      finished = refl;
+    }
+
+-- what the promise says of that release
+pub not-empty-closed :
+    (w : NotEmpty)
+    → let k = getD (tableAfter (w .table) (w .before) .tasks) (w .number - 1) zeroTask in
+    closedBySlot (w .number) k (w .after) ≡ true
+unfolding Promise
+not-empty-closed w =
+    promise (w .table) (w .cores) (w .admitted) (w .calls) .all-closed
+    (w .before) (w .after) (w .entry) (w .number) (w .log) (w .called) (w .released) (w .enough-slots)

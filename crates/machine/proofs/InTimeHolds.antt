@@ -1,0 +1,106 @@
+-- Demand 3: from an admitted table, over every list of calls, no slot is late and every job is closed in time. The theorem is `promise`.
+use Prim.Native.Nat.{ℕ, suc, _-_, _≤_}
+use mathlib.Core.Path.{_≡_, refl, _∙_}
+use mathlib.Core.Bool.{true, false, cond}
+use mathlib.Core.List.{List, [], _∷_}
+use lib.ListN.{getD}
+use native.Mathlib.Omega.{arith}
+use Rattle.tasks.specs.declared.table.Table.{Table}
+use Rattle.edzl.proofs.Cases.{by-test, not-both}
+use Rattle.machine.specs.Job.{taskAt}
+use Rattle.machine.specs.Slot.{slotReport, afterSlot}
+use Rattle.machine.specs.Sound.{isDone, sound}
+use Rattle.machine.specs.Calls.{withJob, releasedJob, withJoined, step}
+use Rattle.machine.specs.Play.{play}
+use Rattle.machine.specs.InTime.{slotCount, joinedBy, closedBySlot, InTime, Promise}
+use Rattle.machine.specs.declared.job.Machine.{Machine}
+use Rattle.machine.specs.declared.call.Call.{Call}
+use Rattle.machine.proofs.State.{jobsOf}
+use Rattle.machine.proofs.SlotStep.{late-is, Late}
+use Rattle.machine.proofs.CallCases.{ReleaseTaken, afterRelease, afterFinish, by-call}
+use Rattle.machine.proofs.JobSteps.{released-job}
+use Rattle.machine.proofs.Kept.{Kept, kept-release, kept-call, slot-on-time, freshMachine, started, kept-fresh}
+use Rattle.machine.proofs.ClosesLaws.{closes-by-slot}
+use Rattle.machine.proofs.InTimeLaws.{EntryInTime, quiet-report, quiet-in-time, in-time-none, in-time-more}
+use Rattle.machine.proofs.Closing.{Going, entryOf, closing}
+
+-- an accepted join's task is added to the table, and nothing else changes it
+table-after : (m : Machine) (call : Call) → step m call .machine .table ≡ cond (isDone (step m call .outcome)) (joinedBy call (m .table)) (m .table)
+unfolding isDone joinedBy afterRelease afterFinish withJob withJoined afterSlot
+table-after m =
+    by-call m (λ call answer. answer .machine .table ≡ cond (isDone (answer .outcome)) (joinedBy call (m .table)) (m .table))
+    (λ call number place. refl)
+    (λ number taken. refl)
+    (λ number taken. refl)
+    (λ is-sound. refl)
+    (λ t taken. refl)
+
+module _ (m : Machine) (kept : Kept m) where
+  never-late : (i : ℕ) → sound m ≡ true → Late m i → ⊥
+  never-late i is-sound late =
+      late .owes (omega (arith, late .out, slot-on-time m kept is-sound i (late .inside) (late .was-open)))
+
+  slot-in-time : sound m ≡ true → (i : ℕ) → getD (slotReport m .late) i false ≡ false
+  slot-in-time is-sound i =
+      by-test (getD (slotReport m .late) i false)
+      (λ late. absurd (never-late i is-sound (late-is m i is-sound late)))
+      (λ fine. fine)
+
+  -- the job of a release, right after it
+  opened :
+      (number : ℕ) → ReleaseTaken m number
+      → let k = taskAt m (number - 1) in
+      Going (afterRelease m number) (number - 1) (k .deadline) (k .budget)
+  unfolding jobsOf afterRelease withJob releasedJob
+  opened number taken =
+      let job = released-job m (kept .all-jobs) number taken in
+      record {
+        kept = kept-release m kept number taken;
+        inside = omega (arith, taken .is-task .some, taken .is-task .fits);
+        is-open = rw job;
+        left-is = rw job;
+        budget-is = rw job;
+      }
+
+  release-closed : (calls : List Call) (number : ℕ) → ReleaseTaken m number →
+      let k = taskAt m (number - 1) in
+      k .deadline ≤ slotCount (play (afterRelease m number) calls) → closedBySlot number k (play (afterRelease m number) calls) ≡ true
+  release-closed calls number taken bound =
+      let from-one : suc (number - 1) ≡ number = omega (arith, taken .is-task .some) in
+      let k = taskAt m (number - 1) in
+      closes-by-slot number k (play (afterRelease m number) calls)
+      ∙ rw from-one at
+      (closing (afterRelease m number) (number - 1) (k .deadline) (k .budget) (opened number taken) calls bound)
+
+  entry-in-time :
+      (calls : List Call) (call : Call)
+      → EntryInTime (m .table) (entryOf call (step m call)) (play (step m call .machine) calls)
+  unfolding isDone taskAt
+  entry-in-time calls =
+      by-call m (λ call answer. EntryInTime (m .table) (entryOf call answer) (play (answer .machine) calls))
+      (λ call number place. quiet-in-time _ _ _ refl (λ n e d. not-both false d refl))
+      (λ n taken.
+      record {
+        not-late = quiet-report;
+        closed = λ number e d.
+            let same : n ≡ number = cc in
+            rw (← same) (release-closed calls n taken);
+      })
+      (λ n taken. quiet-in-time _ _ _ refl (λ number e d. not-both false (cc) refl))
+      (λ is-sound. record { not-late = slot-in-time is-sound; closed = λ number e d. not-both false (cc) refl })
+      (λ t taken. quiet-in-time _ _ _ refl (λ number e d. not-both false (cc) refl))
+
+in-time : (calls : List Call) (m : Machine) → Kept m → InTime (m .table) (play m calls)
+unfolding play
+in-time [] m kept = in-time-none (m .table)
+in-time (call ∷ calls) m kept =
+    let answer = step m call in
+    in-time-more (m .table) (answer .machine .table) (entryOf call answer) (play (answer .machine) calls)
+    (entry-in-time m kept calls call)
+    (table-after m call)
+    (in-time calls (answer .machine) (kept-call m kept call))
+
+pub promise : (t : Table) (cores : ℕ) → Promise t cores
+unfolding Promise freshMachine
+promise t cores yes-admitted calls =
+    rw (started t cores yes-admitted) (in-time calls (freshMachine t cores) (kept-fresh t cores yes-admitted))

@@ -1,0 +1,157 @@
+-- The invariant of a machine on an admitted table: a fresh machine has it (`kept-fresh`), every call keeps it (`kept-call`), and by it no
+-- job is late in a slot (`slot-on-time`).
+use Prim.Native.Nat.{ℕ, zero, suc, _-_, _≤_, _<_}
+use mathlib.Core.Path.{_≡_, refl, _∙_}
+use mathlib.Core.Bool.{true, false}
+use mathlib.Core.List.{List}
+use lib.ListN.{length, getD, replicate, length-set, length-replicate, getD-replicate}
+use native.Mathlib.Omega.{arith}
+use Rattle.tasks.specs.declared.task.Task.{Task}
+use Rattle.tasks.specs.declared.table.Table.{Table}
+use Rattle.tasks.specs.Limits.{maxTasks}
+use Rattle.tasks.specs.Table.{withTask}
+use Rattle.tasks.proofs.Checked.{passes}
+use Rattle.edzl.specs.Window.{bit, admitted}
+use Rattle.edzl.proofs.Invariant.{Fresh}
+use Rattle.edzl.proofs.NoSlack.{Safe, safe-fresh, safe-release, safe-finish, safe-slot, on-time, safe-join}
+use Rattle.judge.specs.TaskSet.{firstTasks, tasksOf}
+use Rattle.judge.specs.Judge.{judged}
+use Rattle.machine.specs.Job.{freshJob, jobAt}
+use Rattle.machine.specs.Pick.{runners}
+use Rattle.machine.specs.Slot.{replaced, afterSlot}
+use Rattle.machine.specs.Sound.{sound}
+use Rattle.machine.specs.Calls.{done, startAfter, start, withJob, withJoined, step}
+use Rattle.machine.specs.declared.job.Machine.{Machine}
+use Rattle.machine.specs.declared.call.Call.{Call}
+use Rattle.machine.proofs.State.{jobsOf}
+use Rattle.machine.proofs.SlotStep.{slot-step}
+use Rattle.machine.proofs.TableFits.{Admits, admits-means, well-checked, sound-fits}
+use Rattle.machine.proofs.CallCases.{NumberFits, ReleaseTaken, FinishTaken, JoinTaken, afterRelease, afterFinish, by-call}
+use Rattle.machine.proofs.JobSteps.{release-step, finish-step}
+use Rattle.machine.proofs.JoinStep.{join-step}
+
+pub record Kept (m : Machine) : Type 0 where
+  pub safe : Safe (tasksOf (m .table)) (m .cores) (jobsOf m)
+  pub admits : admitted (tasksOf (m .table)) (m .cores) ≡ true
+  -- so that a job that is set is there
+  pub all-jobs : length (m .jobs) ≡ maxTasks
+
+-- the machine of a start that is not refused
+unfoldable pub freshMachine : Table → (cores : ℕ) → Machine
+freshMachine t cores = record { table = t; cores = cores; jobs = replicate maxTasks freshJob }
+
+module _ (t : Table) (cores : ℕ) (yes-admitted : judged t cores .admits ≡ true) where
+  means : Admits t cores
+  means = admits-means t cores yes-admitted
+
+  pub started : start t cores .machine ≡ freshMachine t cores
+  unfolding start startAfter done freshMachine
+  started = rw (means .checks)
+
+  fresh-jobs : Fresh (tasksOf t) (jobsOf (freshMachine t cores))
+  unfolding tasksOf firstTasks jobsOf jobAt freshMachine freshJob
+  fresh-jobs =
+      record {
+        none = λ i h. record { closed = rw (job i h); left-none = rw (job i h); budget-none = rw (job i h) };
+        gap-none = λ i h. rw (job i h);
+      }
+    where
+      job : (i : ℕ) → i < t .count → getD (replicate maxTasks freshJob) i freshJob ≡ freshJob
+      job i h =
+          getD-replicate maxTasks i freshJob freshJob (omega (arith, passes t cores (means .checks) .count-fits))
+
+  pub kept-fresh : Kept (freshMachine t cores)
+  unfolding freshMachine
+  kept-fresh =
+      record {
+        safe = safe-fresh (tasksOf t) cores (jobsOf (freshMachine t cores)) fresh-jobs;
+        admits = means .admits;
+        all-jobs = length-replicate maxTasks freshJob;
+      }
+
+length-replaced : {A : Type 0} (n : ℕ) (f : ℕ → A) (l : List A) → length (replaced n f l) ≡ length l
+unfolding replaced
+length-replaced zero f l = refl
+length-replaced (suc n) f l = length-set (replaced n f l) n (f n) ∙ length-replaced n f l
+
+module _ (m : Machine) (kept : Kept m) where
+  in-table : (number : ℕ) → NumberFits m number → number - 1 < tasksOf (m .table) .count
+  unfolding tasksOf firstTasks
+  in-table number fits = omega arith
+
+  pub kept-release : (number : ℕ) → ReleaseTaken m number → Kept (afterRelease m number)
+  unfolding afterRelease withJob
+  kept-release number taken =
+      record {
+        safe =
+            safe-release (tasksOf (m .table)) (sound-fits m (taken .is-sound)) (m .cores) (jobsOf m) (jobsOf (afterRelease m number))
+            (kept .safe)
+            (number - 1)
+            (in-table number (taken .is-task))
+            (release-step m (kept .all-jobs) number taken);
+        admits = kept .admits;
+        all-jobs = rw length-set (kept .all-jobs);
+      }
+
+  pub kept-finish : (number : ℕ) → FinishTaken m number → Kept (afterFinish m number)
+  unfolding afterFinish withJob
+  kept-finish number taken =
+      record {
+        safe =
+            safe-finish (tasksOf (m .table)) (sound-fits m (taken .is-sound)) (m .cores) (jobsOf m) (jobsOf (afterFinish m number))
+            (kept .safe)
+            (number - 1)
+            (in-table number (taken .is-task))
+            (finish-step m (kept .all-jobs) number taken);
+        admits = kept .admits;
+        all-jobs = rw length-set (kept .all-jobs);
+      }
+
+  pub kept-join : (t : Task) → JoinTaken m t → Kept (withJoined m t)
+  unfolding withJoined
+  kept-join t taken =
+      let longer = admits-means (withTask (m .table) t) (m .cores) (taken .admits) in
+      record {
+        safe =
+            safe-join (tasksOf (m .table)) (tasksOf (withTask (m .table) t)) (m .cores) (jobsOf m) (jobsOf (withJoined m t))
+            (well-checked _ _ (longer .checks))
+            (join-step m (kept .all-jobs) t (taken .room))
+            (kept .safe);
+        admits = longer .admits;
+        all-jobs = rw length-set (kept .all-jobs);
+      }
+
+pub kept-slot : (m : Machine) → Kept m → sound m ≡ true → Kept (afterSlot m)
+unfolding afterSlot
+kept-slot m kept is-sound =
+    record {
+      safe =
+          safe-slot (tasksOf (m .table)) (sound-fits m is-sound) (m .cores) (jobsOf m) (jobsOf (afterSlot m))
+          (kept .safe)
+          (kept .admits)
+          (λ i. getD (runners m) i false)
+          (slot-step m is-sound);
+      admits = kept .admits;
+      all-jobs = rw length-replaced (kept .all-jobs);
+    }
+
+-- a job owes no more after a slot than it has slots left
+pub slot-on-time :
+    (m : Machine) → Kept m → sound m ≡ true → (i : ℕ) → i < m .table .count → jobsOf m .isOpen i ≡ true
+    → jobsOf m .budget i - bit (getD (runners m) i false) ≤ jobsOf m .left i - 1
+unfolding tasksOf firstTasks
+slot-on-time m kept is-sound =
+    on-time (tasksOf (m .table)) (sound-fits m is-sound) (m .cores) (jobsOf m) (jobsOf (afterSlot m))
+    (kept .safe)
+    (kept .admits)
+    (λ i. getD (runners m) i false)
+    (slot-step m is-sound)
+
+pub kept-call : (m : Machine) → Kept m → (call : Call) → Kept (step m call .machine)
+kept-call m kept =
+    by-call m (λ call answer. Kept (answer .machine))
+    (λ call number place. kept)
+    (kept-release m kept)
+    (kept-finish m kept)
+    (kept-slot m kept)
+    (kept-join m kept)

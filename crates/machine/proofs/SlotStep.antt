@@ -1,0 +1,198 @@
+-- A slot of a sound machine is one of the theory's. Others cite: `slot-step`; `ran-in`, `late-is` and `finished-is`, on the report;
+-- `finished-at` and `late-at`, an entry of it; and `after-slot-job` and `after-slot-past`, the job at each index after the slot.
+use Prim.Native.Nat.{ℕ, _-_, _≤_, _<_}
+use mathlib.Core.Path.{_≡_, refl, sym, _∙_}
+use mathlib.Core.Bool.{Bool, true, false, not, _&&_, _||_, and-eq-true-iff}
+use native.Mathlib.Omega.{arith}
+use lib.Dec.{eqb}
+use lib.ListN.{getD, length, replicate, length-replicate, List·getD-eq-default}
+use borrow.Author.Tests.{eqb-true, eqb-false, eq-eqb, ne-eqb, not-true}
+use Rattle.edzl.specs.Window.{bit}
+use Rattle.edzl.proofs.Cases.{by-order, by-equal, by-test, not-both}
+use Rattle.edzl.proofs.Invariant.{NoJob}
+use Rattle.edzl.proofs.Slot.{StillOpen, SlotEffect, Slotted}
+use Rattle.tasks.specs.Limits.{maxTasks}
+use Rattle.judge.specs.TaskSet.{firstTasks, tasksOf}
+use Rattle.machine.specs.Job.{freshJob, closedJob, jobAt}
+use Rattle.machine.specs.Pick.{runners}
+use Rattle.machine.specs.Slot.{charged, aged, passed, isFinished, isLate, settled, replaced, slotReport, afterSlot}
+use Rattle.machine.specs.Sound.{sound}
+use Rattle.machine.specs.declared.job.Job.{Job}
+use Rattle.machine.specs.declared.job.Machine.{Machine}
+use Rattle.machine.proofs.State.{jobsOf}
+use Rattle.machine.proofs.ListLaws.{replicate-entry, replaced-at, replaced-past, replaced-short}
+use Rattle.machine.proofs.SoundLaws.{sound-passes, sound-closed}
+use Rattle.machine.proofs.PickLaws.{runner-in, runner-open, runners-legal}
+
+-- Step 4, by the state of the job before it.
+module _ (j : Job) where
+  settled-gap : settled j .gap ≡ j .gap
+  unfolding settled closedJob
+  settled-gap = by-test (isFinished j || isLate j) (λ e. rw e) (λ e. rw e)
+
+  settled-closed : j .«open» ≡ false → settled j ≡ j
+  unfolding settled isFinished isLate
+  settled-closed c = rw c
+
+  module _ (o : j .«open» ≡ true) where
+    settled-finished : j .budget ≡ 0 → settled j ≡ closedJob j
+    unfolding settled isFinished
+    settled-finished e = rw (o, eq-eqb _ _ e)
+
+    settled-late : (j .budget ≡ 0 → ⊥) → j .left ≡ 0 → settled j ≡ closedJob j
+    unfolding settled isFinished isLate
+    settled-late ne e = rw (o, ne-eqb _ _ ne, eq-eqb _ _ e)
+
+    settled-open : (j .budget ≡ 0 → ⊥) → (j .left ≡ 0 → ⊥) → settled j ≡ j
+    unfolding settled isFinished isLate
+    settled-open ne more = rw (o, ne-eqb _ _ ne, ne-eqb _ _ more)
+
+-- A fresh job, as is read past the end of the list of jobs, stays one.
+fresh-stays : (ran : Bool) → settled (aged (charged ran freshJob)) ≡ freshJob
+unfolding settled isFinished isLate aged charged freshJob bit
+fresh-stays true = refl
+fresh-stays false = refl
+
+module _ (m : Machine) where
+  fresh-after : (i : ℕ) → jobAt m i ≡ freshJob → settled (passed m i) ≡ freshJob
+  unfolding passed
+  fresh-after i none = rw none (fresh-stays _)
+
+  pub after-slot-job : (i : ℕ) → i < m .table .count → jobAt (afterSlot m) i ≡ settled (passed m i)
+  unfolding jobAt afterSlot
+  after-slot-job i h =
+      by-order (length (m .jobs)) i
+      (λ short.
+      replaced-short (λ i. settled (passed m i)) (m .jobs) freshJob (m .table .count) i short
+      ∙ sym (fresh-after i (List·getD-eq-default (m .jobs) freshJob short)))
+      (λ long. replaced-at (λ i. settled (passed m i)) (m .jobs) freshJob (m .table .count) i h long)
+
+  pub after-slot-past : (i : ℕ) → m .table .count ≤ i → jobAt (afterSlot m) i ≡ jobAt m i
+  unfolding jobAt afterSlot
+  after-slot-past i h = replaced-past (λ i. settled (passed m i)) (m .jobs) freshJob (m .table .count) i h
+
+-- A task that ran: it is one of the table's, and its job was open.
+pub record Ran (m : Machine) (i : ℕ) : Type 0 where
+  pub inside : i < m .table .count
+  pub was-open : jobsOf m .isOpen i ≡ true
+
+-- A task reported late: its job was open, and after steps 2 and 3 it still owes a slot and has none left.
+pub record Late (m : Machine) (i : ℕ) : Type 0 where
+  pub inside : i < m .table .count
+  pub was-open : jobsOf m .isOpen i ≡ true
+  pub owes : jobsOf m .budget i - bit (getD (runners m) i false) ≡ 0 → ⊥
+  pub out : jobsOf m .left i - 1 ≡ 0
+
+module _ (m : Machine) (i : ℕ) (ok : sound m ≡ true) where
+  pub ran-in : getD (runners m) i false ≡ true → Ran m i
+  unfolding jobsOf
+  ran-in e =
+      let fits = sound-passes m ok .count-fits in
+      record { inside = runner-in m fits i e; was-open = runner-open m fits i e }
+
+  -- An entry of the report.
+  reported : (f : ℕ → Bool) → i < m .table .count → getD (replaced (m .table .count) f (replicate maxTasks false)) i false ≡ f i
+  reported f h =
+      replaced-at f (replicate maxTasks false) false (m .table .count) i h
+      (omega (arith, length-replicate maxTasks false, sound-passes m ok .count-fits))
+
+  pub finished-at : i < m .table .count → getD (slotReport m .finished) i false ≡ isFinished (passed m i)
+  unfolding slotReport
+  finished-at h = reported (λ i. isFinished (passed m i)) h
+
+  pub late-at : i < m .table .count → getD (slotReport m .late) i false ≡ isLate (passed m i)
+  unfolding slotReport
+  late-at h = reported (λ i. isLate (passed m i)) h
+
+  -- No task past the count is reported late.
+  late-past : m .table .count ≤ i → getD (slotReport m .late) i false ≡ false
+  unfolding slotReport
+  late-past h =
+      replaced-past (λ i. isLate (passed m i)) (replicate maxTasks false) false (m .table .count) i h
+      ∙ replicate-entry maxTasks i false
+
+  passed-left : jobsOf m .isOpen i ≡ true → passed m i .left ≡ jobsOf m .left i - 1
+  unfolding passed aged charged jobsOf
+  passed-left o = rw o
+
+  late-inside : i < m .table .count → isLate (passed m i) ≡ true → Late m i
+  unfolding isLate passed aged charged jobsOf
+  late-inside h e =
+      let (first, out) = and-eq-true-iff (passed m i .«open» && not (eqb (passed m i .budget) 0)) _ .0 e in
+      let (was-open, owes) = and-eq-true-iff (passed m i .«open») _ .0 first in
+      record {
+        inside = h;
+        was-open = was-open;
+        owes = eqb-false _ _ (not-true _ owes);
+        out = sym (passed-left was-open) ∙ eqb-true _ _ out;
+      }
+
+  pub late-is : getD (slotReport m .late) i false ≡ true → Late m i
+  late-is e =
+      by-order (m .table .count) i
+      (λ past. not-both (getD (slotReport m .late) i false) e (late-past past))
+      (λ h. late-inside h (sym (late-at h) ∙ e))
+
+  pub finished-is : i < m .table .count →
+      jobsOf m .isOpen i ≡ true →
+      jobsOf m .budget i - bit (getD (runners m) i false) ≡ 0 →
+      getD (slotReport m .finished) i false ≡ true
+  unfolding jobsOf isFinished passed aged charged
+  finished-is h o e = finished-at h ∙ rw (o, eq-eqb _ _ e)
+
+  module _ (h : i < m .table .count) where
+    -- What step 4 closes has no job after the slot.
+    none-after : settled (passed m i) ≡ closedJob (passed m i) → NoJob (jobsOf (afterSlot m)) i
+    unfolding jobsOf closedJob
+    none-after e =
+        let now = after-slot-job m i h ∙ e in
+        record { closed = rw now; left-none = rw now; budget-none = rw now }
+
+    -- Without a job, steps 2 and 3 leave none.
+    still-none : jobsOf m .isOpen i ≡ false → NoJob (jobsOf (afterSlot m)) i
+    unfolding jobsOf passed aged charged
+    still-none c =
+        let now = after-slot-job m i h ∙ settled-closed (passed m i) c in
+        let none = sound-closed m ok i h c in
+        record {
+          closed = rw (now, c);
+          left-none = rw (now, c) (none .left-none);
+          budget-none = rw now (omega (arith, none .budget-none));
+        }
+
+    closed-late : jobsOf m .isOpen i ≡ true → jobsOf m .left i - 1 ≡ 0 → NoJob (jobsOf (afterSlot m)) i
+    unfolding jobsOf passed aged charged
+    closed-late o e =
+        by-equal (passed m i .budget) 0
+        (λ done. none-after (settled-finished (passed m i) o done))
+        (λ owes. none-after (settled-late (passed m i) o owes (passed-left o ∙ e)))
+
+    still-open : jobsOf m .isOpen i ≡ true →
+        1 ≤ jobsOf m .budget i - bit (getD (runners m) i false) →
+        1 ≤ jobsOf m .left i - 1 →
+        StillOpen (λ i. getD (runners m) i false) (jobsOf m) (jobsOf (afterSlot m)) i
+    unfolding jobsOf passed aged charged
+    still-open o owes more =
+        let now = after-slot-job m i h ∙ settled-open (passed m i) o (omega arith) (omega (arith, passed-left o)) in
+        record { still-open = rw now o; now-left = rw now (passed-left o); now-budget = rw now }
+
+    effect : SlotEffect (λ i. getD (runners m) i false) (jobsOf m) (jobsOf (afterSlot m)) i
+    unfolding jobsOf passed aged charged
+    effect =
+        record {
+          gap-falls = rw (after-slot-job m i h) (settled-gap (passed m i));
+          stays-closed = still-none;
+          closes-finished = λ o e. none-after (settled-finished (passed m i) o e);
+          closes-late = closed-late;
+          stays-open = still-open;
+        }
+
+pub slot-step : (m : Machine) →
+    sound m ≡ true →
+    Slotted (tasksOf (m .table)) (m .cores) (λ i. getD (runners m) i false) (jobsOf m) (jobsOf (afterSlot m))
+unfolding tasksOf firstTasks
+slot-step m ok =
+    record {
+      choice = runners-legal m (sound-passes m ok .count-fits);
+      effect = λ i. effect m i ok;
+    }

@@ -1,0 +1,67 @@
+-- A slot task by task, as the code goes. Others cite `Turned`, the state after the first i tasks, with `turned-none` and `turned-more`, and
+-- `turned-all`, that after all of them it is the definition's answer.
+use Prim.Native.Nat.{ℕ, _+_}
+use mathlib.Core.Path.{_≡_, refl, ap, _∙_}
+use mathlib.Core.Bool.{Bool, false}
+use mathlib.Core.List.{List}
+use native.Mathlib.Nat.{le-refl}
+use native.Mathlib.Numerals.{add-one}
+use lib.ListN.{getD, set, replicate}
+use Rattle.tasks.specs.declared.outcome.Outcome.the-variants.{Done}
+use Rattle.tasks.specs.Limits.{maxTasks}
+use Rattle.machine.specs.Job.{freshJob, jobAt}
+use Rattle.machine.specs.Pick.{runners, runnerCount}
+use Rattle.machine.specs.Slot.{charged, aged, passed, isFinished, isLate, settled, replaced, slotReport, afterSlot}
+use Rattle.machine.specs.declared.job.Job.{Job}
+use Rattle.machine.specs.declared.job.Machine.{Machine}
+use Rattle.machine.specs.declared.answer.Answer.{Answer}
+use Rattle.machine.proofs.ListLaws.{replaced-past}
+
+-- the machine m and two lists of the report after the first i tasks of m₀ have passed the slot
+pub record Turned (m₀ m : Machine) (finished late : List Bool) (i : ℕ) : Type 0 where
+  pub same-table : m .table ≡ m₀ .table
+  pub same-cores : m .cores ≡ m₀ .cores
+  pub jobs-are : m .jobs ≡ replaced i (λ k. settled (passed m₀ k)) (m₀ .jobs)
+  pub finished-are : finished ≡ replaced i (λ k. isFinished (passed m₀ k)) (replicate maxTasks false)
+  pub late-are : late ≡ replaced i (λ k. isLate (passed m₀ k)) (replicate maxTasks false)
+
+pub turned-none : (m : Machine) → Turned m m (replicate maxTasks false) (replicate maxTasks false) 0
+unfolding replaced
+turned-none m = record { same-table = refl; same-cores = refl; jobs-are = refl; finished-are = refl; late-are = refl }
+
+module _ (m₀ m : Machine) (finished late : List Bool) (i : ℕ) (t : Turned m₀ m finished late i) where
+  -- the job at i has not passed yet
+  pub job-before : getD (m .jobs) i freshJob ≡ jobAt m₀ i
+  unfolding jobAt
+  job-before = rw (t .jobs-are) (replaced-past (λ k. settled (passed m₀ k)) (m₀ .jobs) freshJob i i (le-refl i))
+
+  -- one task more
+  pub turned-more :
+      (j : Job) → j ≡ aged (charged (getD (runners m₀) i false) (getD (m .jobs) i freshJob))
+      → Turned m₀ (record { table = m .table; cores = m .cores; jobs = set (m .jobs) i (settled j) })
+      (set finished i (isFinished j)) (set late i (isLate j)) (i + 1)
+  unfolding replaced passed
+  turned-more j e =
+      let p : j ≡ passed m₀ i = e ∙ ap (λ (x : Job). aged (charged (getD (runners m₀) i false) x)) job-before in
+      record {
+        same-table = t .same-table;
+        same-cores = t .same-cores;
+        jobs-are = rw (add-one i, p, t .jobs-are);
+        finished-are = rw (add-one i, p, t .finished-are);
+        late-are = rw (add-one i, p, t .late-are);
+      }
+
+-- after every task
+pub turned-all :
+    (m₀ m : Machine) (finished late ran : List Bool) (n : ℕ) → Turned m₀ m finished late (m₀ .table .count) → ran ≡ runners m₀
+    → n ≡ runnerCount m₀
+    → _≡_ {A = Answer}
+    (record { machine = m; outcome = Done; report = record { ran = ran; finished = finished; late = late; runners = n } })
+    (record { machine = afterSlot m₀; outcome = Done; report = slotReport m₀ })
+unfolding afterSlot slotReport
+turned-all m₀ m finished late ran n t e q =
+    λ i. record {
+      machine = record { table = t .same-table i; cores = t .same-cores i; jobs = t .jobs-are i };
+      outcome = Done;
+      report = record { ran = e i; finished = t .finished-are i; late = t .late-are i; runners = q i };
+    }

@@ -1,0 +1,75 @@
+-- `mask` meets its contract. The invariant: the sum is the mask of the entries that were passed.
+use Prim.Native.Nat.{_+_, _-_, _*_, _^_, _≤_, _<_}
+use native.Mathlib.Nat.{pow-le-pow-right}
+use native.Mathlib.Omega.{arith}
+use mathlib.Core.Path.{_≡_}
+use mathlib.Core.Bool.{false}
+use mir.Val.{boolByte}
+use borrow.Author.Needs.{needs}
+use lib.Dec.{lit<}
+use lib.ListN.{length, getD}
+use Rattle.machine.proofs.MaskTurn.{Masked, masked-none, masked-more, room}
+use Rattle.machine.proofs.answer.mask.Statement.{statement}
+use Rattle.machine.proofs.answer.mask.Tie as tie
+
+abbrev Inv-loop : tie.InvT-loop
+Inv-loop named sum₀ i₀ sum i = Masked named sum i
+
+abbrev μ-loop : tie.MeasureT-loop
+μ-loop named sum₀ i₀ sum i = i
+
+-- the next sum fits
+fits : (c : tie.In-loop Inv-loop μ-loop) →
+    let l = c .before in
+    boolByte (getD (l .before .args .t1) (l .loop .i - 1) false) + 2 * l .loop .sum < 2 ^ 64
+fits c =
+    let l = c .before in
+    let few : 32 - (l .loop .i - 1) ≤ 32 = omega arith in
+    omega (arith, room _ _ _ (l .loop .inv) (c .loop-test .taken), pow-le-pow-right {n = 2} (lit< tt) few)
+
+loop-holds : tie.Need-loop-holds Inv-loop μ-loop
+loop-holds c =
+    let e : length (c .args .t1) ≡ 32 = search needs in
+    masked-none _ e
+
+sub-i : tie.Need-sub-i Inv-loop μ-loop
+sub-i c = omega arith
+
+array-read-sum : tie.Need-array-read-sum Inv-loop μ-loop
+array-read-sum c = omega (arith, c .before .loop .inv .within)
+
+cast-sum : tie.Need-cast-sum Inv-loop μ-loop
+cast-sum c = search needs
+
+mul-sum : tie.Need-mul-sum Inv-loop μ-loop
+mul-sum c = omega (arith, fits c)
+
+add-sum : tie.Need-add-sum Inv-loop μ-loop
+add-sum c = omega (arith, fits c)
+
+loop-less : tie.Need-loop-less Inv-loop μ-loop
+loop-less c = omega arith
+
+loop-again : tie.Need-loop-again Inv-loop μ-loop
+loop-again c = masked-more _ _ _ (c .before .loop .inv) (c .loop-test .taken)
+
+returns : tie.Need-returns Inv-loop μ-loop
+returns c =
+    let e : c .before .loop .i ≡ 0 = omega arith in
+    rw e at (c .before .loop .inv .sum-is)
+
+pub mask-spec : {M : Type 1} → statement M
+mask-spec =
+    tie.close
+    (tie.spec
+    Inv-loop
+    μ-loop
+    loop-holds
+    sub-i
+    array-read-sum
+    cast-sum
+    mul-sum
+    add-sum
+    loop-less
+    loop-again
+    returns)

@@ -1,0 +1,100 @@
+-- The calls of the machine: document 01, "The slot machine" and "Why a call is not carried out".
+use Prim.Native.Nat.{ℕ, _-_}
+use mathlib.Core.Bool.{Bool, true, cond, not, _&&_}
+use lib.Dec.{leb, ltb}
+use lib.ListN.{set, replicate}
+use Rattle.tasks.specs.declared.task.Task.{Task}
+use Rattle.tasks.specs.declared.table.Table.{Table}
+use Rattle.tasks.specs.declared.outcome.Outcome.{Outcome}
+use Rattle.tasks.specs.declared.outcome.Outcome.the-variants.{Done, Refused}
+use Rattle.tasks.specs.Limits.{maxTasks}
+use Rattle.tasks.specs.Refusals.{unsoundMachine, taskOutOfRange, noSuchTask, releasedTooSoon, jobStillOpen, jobNotOpen, tableFull, notAdmitted}
+use Rattle.tasks.specs.Task.{inRange}
+use Rattle.tasks.specs.Table.{withTask}
+use Rattle.tasks.specs.Check.{checked}
+use Rattle.judge.specs.Judge.{judged}
+use Rattle.machine.specs.Job.{freshJob, closedJob, zeroMachine, taskAt, jobAt}
+use Rattle.machine.specs.Slot.{noReport, slotReport, afterSlot}
+use Rattle.machine.specs.Sound.{sound}
+use Rattle.machine.specs.declared.job.Job.{Job}
+use Rattle.machine.specs.declared.job.Machine.{Machine}
+use Rattle.machine.specs.declared.call.Call.{Call}
+use Rattle.machine.specs.declared.call.Call.the-variants.{Release, Finish, Slot, Join}
+use Rattle.machine.specs.declared.answer.Answer.{Answer}
+
+-- a call that is carried out and reports nothing
+unfoldable pub done : Machine → Answer
+done m = record { machine = m; outcome = Done; report = noReport }
+
+-- "a refused call the same machine"; "every other refusal, and a join's 5, carries 0"
+unfoldable pub refuse : Machine → (number : ℕ) → Answer
+refuse m number = record { machine = m; outcome = Refused number 0; report = noReport }
+
+-- a start, after the refusals of starting were tried: "A fresh machine has every task closed and all three numbers 0"
+unfoldable pub startAfter : Outcome → Table → (cores : ℕ) → Answer
+startAfter Done t cores = done (record { table = t; cores = cores; jobs = replicate maxTasks freshJob })
+startAfter (Refused number place) t cores =
+    record { machine = zeroMachine; outcome = Refused number place; report = noReport }
+
+unfoldable pub start : Table → (cores : ℕ) → Answer
+start t cores = startAfter (checked t cores) t cores
+
+-- "The task number is not in the table", the other way round
+unfoldable pub inTable : Machine → (number : ℕ) → Bool
+inTable m number = leb 1 number && leb number (m .table .count)
+
+-- the machine with another job at an index
+unfoldable pub withJob : Machine → ℕ → Job → Machine
+withJob m i j = record { table = m .table; cores = m .cores; jobs = set (m .jobs) i j }
+
+-- "it becomes open, left = D_i, budget = C_i, gap = T_i"
+unfoldable pub releasedJob : Task → Job
+releasedJob t = record { «open» = true; left = t .deadline; budget = t .budget; gap = t .period }
+
+-- "Release: 8, 9, 10", after 0
+unfoldable pub release : Machine → (number : ℕ) → Answer
+release m number =
+    let i = number - 1 in
+    cond (not (sound m)) (refuse m unsoundMachine)
+    (cond (not (inTable m number)) (refuse m noSuchTask)
+    (cond (ltb 0 (jobAt m i .gap)) (refuse m releasedTooSoon)
+    (cond (jobAt m i .«open») (refuse m jobStillOpen) (done (withJob m i (releasedJob (taskAt m i)))))))
+
+-- "Finish: 8, 11", after 0
+unfoldable pub finish : Machine → (number : ℕ) → Answer
+finish m number =
+    let i = number - 1 in
+    cond (not (sound m)) (refuse m unsoundMachine)
+    (cond (not (inTable m number)) (refuse m noSuchTask)
+    (cond (not (jobAt m i .«open»)) (refuse m jobNotOpen) (done (withJob m i (closedJob (jobAt m i))))))
+
+-- "Slot knows 0 only"
+unfoldable pub slot : Machine → Answer
+slot m =
+    cond (not (sound m)) (refuse m unsoundMachine)
+    (record { machine = afterSlot m; outcome = Done; report = slotReport m })
+
+-- "added at the end of the table, closed, gap 0"
+unfoldable pub withJoined : Machine → Task → Machine
+withJoined m t =
+    record { table = withTask (m .table) t; cores = m .cores; jobs = set (m .jobs) (m .table .count) freshJob }
+
+-- a join, after the verdict on the longer table: "if the longer table is admitted on m cores"
+unfoldable pub joinAfter : Outcome → (admits : Bool) → Machine → Task → Answer
+joinAfter Done admits m t = cond admits (done (withJoined m t)) (refuse m notAdmitted)
+joinAfter (Refused number place) admits m t = record { machine = m; outcome = Refused number place; report = noReport }
+
+-- "Join: 5, 12, 13", after 0
+unfoldable pub join : Machine → Task → Answer
+join m t =
+    let verdict = judged (withTask (m .table) t) (m .cores) in
+    cond (not (sound m)) (refuse m unsoundMachine)
+    (cond (not (inRange t)) (refuse m taskOutOfRange)
+    (cond (leb maxTasks (m .table .count)) (refuse m tableFull) (joinAfter (verdict .outcome) (verdict .admits) m t)))
+
+-- "A call is one of release, finish, slot and join"
+unfoldable pub step : Machine → Call → Answer
+step m (Release number) = release m number
+step m (Finish number) = finish m number
+step m Slot = slot m
+step m (Join t) = join m t

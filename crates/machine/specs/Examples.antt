@@ -1,0 +1,122 @@
+-- Examples beside the cases of document 01, as entries of a single list of computed tests: 32 tasks on 16 cores, joins, a task that
+-- turns urgent, refused calls. `allTrue examples` is the test; the theorem stands in proofs/ExamplesHold.antt.
+use Prim.Native.Nat.{ℕ}
+use mathlib.Core.Bool.{Bool, true, false, cond, _&&_}
+use mathlib.Core.List.{List, [], _∷_, _++_}
+use lib.Dec.{eqb}
+use lib.ListN.{replicate}
+use Rattle.tasks.specs.declared.task.Task.{Task}
+use Rattle.tasks.specs.declared.outcome.Outcome.{Outcome}
+use Rattle.tasks.specs.declared.outcome.Outcome.the-variants.{Done, Refused}
+use Rattle.machine.specs.Calls.{start}
+use Rattle.machine.specs.Play.{Entry, play}
+use Rattle.machine.specs.InTime.{acceptedSlot}
+use Rattle.machine.specs.Cases.{Line, verdictIs, sessionIs, task, tableOf, slotLines, sameLines, releases, holds, line, example}
+use Rattle.machine.specs.declared.call.Call.{Call}
+use Rattle.machine.specs.declared.call.Call.the-variants.{Release, Finish, Slot, Join}
+
+-- the answers to a list of calls, from a fresh machine
+unfoldable pub answers : List Task → (cores : ℕ) → List Call → List Entry
+answers tasks cores calls = play (start (tableOf tasks) cores .machine) calls
+
+unfoldable pub refusalBefore : Outcome → List ℕ → List ℕ
+refusalBefore Done numbers = numbers
+refusalBefore (Refused number place) numbers = number ∷ numbers
+
+-- the refusal numbers of the refused calls
+unfoldable pub refusals : List Entry → List ℕ
+refusals [] = []
+refusals (e ∷ log) = refusalBefore (e .outcome) (refusals log)
+
+-- the number of runners that each slot gives
+unfoldable pub runnerCounts : List Entry → List ℕ
+runnerCounts [] = []
+runnerCounts (e ∷ log) = cond (acceptedSlot e) (e .report .runners ∷ runnerCounts log) (runnerCounts log)
+
+unfoldable pub sameNumbers : List ℕ → List ℕ → Bool
+sameNumbers [] [] = true
+sameNumbers [] (y ∷ t) = false
+sameNumbers (x ∷ s) [] = false
+sameNumbers (x ∷ s) (y ∷ t) = eqb x y && sameNumbers s t
+
+-- the calls are refused with these numbers, the others carried out, and the slots report these lines
+unfoldable pub runIs : List Task → (cores : ℕ) → List Call → (numbers : List ℕ) → List Line → Bool
+runIs tasks cores calls numbers lines =
+    let log = answers tasks cores calls in sameNumbers (refusals log) numbers && sameLines (slotLines log) lines
+
+-- the call is refused with this number, and the slots report the same lines with it and without it
+unfoldable pub ignoredIs :
+    List Task → (cores : ℕ) → (before : List Call) → Call → (number : ℕ) → (after : List Call) → List Line → Bool
+ignoredIs tasks cores before call number after lines =
+    runIs tasks cores (before ++ call ∷ after) (number ∷ []) lines && runIs tasks cores (before ++ after) [] lines
+
+-- 32 tasks: the last 12 have the earlier deadline
+unfoldable pub many : List Task
+many = replicate 20 (task 40 2 20) ++ replicate 12 (task 40 3 7)
+
+-- a table that a third task like the two fills beyond its cores
+unfoldable pub whole : List Task
+whole = task 5 5 5 ∷ task 5 5 5 ∷ []
+
+-- two tasks with an earlier deadline than the third, released a slot after it
+unfoldable pub overtaken : List Task
+overtaken = task 5 2 5 ∷ task 5 2 5 ∷ task 7 6 7 ∷ []
+
+-- a call on `example` after the first slot, in which task 1 finished and task 2 did not
+unfoldable pub ignored : Call → (number : ℕ) → Bool
+ignored call number =
+    ignoredIs example 2 (Release 1 ∷ Release 2 ∷ Slot ∷ []) call number (Release 3 ∷ replicate 6 Slot)
+    (line 3 1 0 ∷ line 6 2 0 ∷ line 4 0 0 ∷ line 4 0 0 ∷ line 4 0 0 ∷ line 4 0 0 ∷ line 4 4 0 ∷ [])
+
+unfoldable pub examples : List Bool
+examples =
+    -- 32 tasks on 16 cores: COUNT 12, admitted; on 11 cores the same COUNT, refused
+    holds (verdictIs many 16 12 true) ∷
+    holds (verdictIs many 11 12 false) ∷
+    -- all 32 released: tasks 21 to 32 and 1 to 4 run first, then tasks 5 to 8, then 9 to 20
+    holds
+    (sessionIs many 16
+    (line 4_293_918_735 0 0 ∷
+    line 4_293_918_735 15 0 ∷
+    line 4_293_918_960 4_293_918_720 0 ∷
+    line 1_048_560 240 0 ∷
+    line 1_048_320 1_048_320 0 ∷
+    line 0 0 0 ∷
+    [])) ∷
+    -- 16 run while 16 or more are open, then 12, then none
+    sameNumbers (runnerCounts (answers many 16 (releases 32 ++ replicate 6 Slot)))
+    (16 ∷ 16 ∷ 16 ∷ 16 ∷ 12 ∷ 0 ∷ []) ∷
+    -- a 33rd task is refused by 12
+    runIs many 16 (Join (task 40 1 40) ∷ []) (12 ∷ []) [] ∷
+    -- a join that is admitted, between two slots: its task is released and runs
+    runIs (task 4 1 4 ∷ task 6 2 5 ∷ []) 2
+    (Release 1 ∷ Release 2 ∷ Slot ∷ Join (task 10 6 8) ∷ Release 3 ∷ replicate 6 Slot)
+    []
+    (line 3 1 0 ∷ line 6 2 0 ∷ line 4 0 0 ∷ line 4 0 0 ∷ line 4 0 0 ∷ line 4 0 0 ∷ line 4 4 0 ∷ []) ∷
+    -- a join that is not admitted changes no later answer
+    ignoredIs whole 2 (Release 1 ∷ Slot ∷ []) (Join (task 5 5 5)) 13 (Release 2 ∷ replicate 5 Slot)
+    (line 1 0 0 ∷ line 3 0 0 ∷ line 3 0 0 ∷ line 3 0 0 ∷ line 3 1 0 ∷ line 2 2 0 ∷ []) ∷
+    -- and its task has no number
+    runIs whole 2 (Join (task 5 5 5) ∷ Release 3 ∷ []) (13 ∷ 8 ∷ []) [] ∷
+    -- slot 3 runs task 3, urgent by then, before task 2 with the earlier deadline; tasks 1 and 2 first would make task 3 late
+    holds (verdictIs overtaken 2 1 true) ∷
+    runIs overtaken 2 (Release 3 ∷ Slot ∷ Release 1 ∷ Release 2 ∷ replicate 6 Slot) []
+    (line 4 0 0 ∷ line 3 0 0 ∷ line 5 1 0 ∷ line 6 2 0 ∷ line 4 0 0 ∷ line 4 0 0 ∷ line 4 4 0 ∷ []) ∷
+    -- refused calls that change no later answer: a release too soon, a finish of a closed task
+    ignored (Release 1) 9 ∷
+    ignored (Finish 1) 11 ∷
+    -- the task numbers 0 and n + 1
+    ignored (Release 0) 8 ∷
+    ignored (Release 4) 8 ∷
+    ignored (Finish 0) 8 ∷
+    ignored (Finish 4) 8 ∷
+    -- a join out of range, and one that is not admitted
+    ignored (Join (task 5 6 5)) 5 ∷
+    ignored (Join (task 10 9 10)) 13 ∷
+    -- a finish before the job has run: the task stays idle, and its gap stays
+    runIs example 2 (Release 1 ∷ Release 2 ∷ Finish 2 ∷ Release 2 ∷ replicate 2 Slot) (9 ∷ []) (line 1 1 0 ∷ line 0 0 0 ∷ []) ∷
+    []
+
+unfoldable pub allTrue : List Bool → Bool
+allTrue [] = true
+allTrue (b ∷ l) = b && allTrue l

@@ -1,0 +1,105 @@
+-- The claim of demand 3, read from the table started on, the calls and their answers only: document 01, "The slot machine", the paragraph
+-- that begins "Demand 3 is a single claim". Tasks are named by their number, from 1.
+use Prim.Native.Nat.{ℕ, suc, _-_, _≤_}
+use mathlib.Core.Path.{_≡_}
+use mathlib.Core.Bool.{Bool, true, false, cond, _&&_, _||_}
+use mathlib.Core.List.{List, [], _∷_, _++_}
+use lib.Dec.{eqb, leb}
+use lib.ListN.{getD}
+use Rattle.tasks.specs.declared.task.Task.{Task}
+use Rattle.tasks.specs.declared.table.Table.{Table}
+use Rattle.tasks.specs.Table.{zeroTask, withTask}
+use Rattle.machine.specs.Sound.{isDone}
+use Rattle.judge.specs.Judge.{judged}
+use Rattle.machine.specs.Calls.{start}
+use Rattle.machine.specs.Play.{Entry, play}
+use Rattle.machine.specs.declared.call.Call.{Call}
+use Rattle.machine.specs.declared.answer.Answer.{Answer}
+use Rattle.machine.specs.declared.call.Call.the-variants.{Release, Finish, Slot, Join}
+
+unfoldable pub isSlot : Call → Bool
+isSlot (Release number) = false
+isSlot (Finish number) = false
+isSlot Slot = true
+isSlot (Join task) = false
+
+unfoldable pub isFinishOf : (number : ℕ) → Call → Bool
+isFinishOf number (Release other) = false
+isFinishOf number (Finish other) = eqb other number
+isFinishOf number Slot = false
+isFinishOf number (Join task) = false
+
+-- "A call is accepted when it is not refused"
+unfoldable pub acceptedSlot : Entry → Bool
+acceptedSlot e = isDone (e .outcome) && isSlot (e .call)
+
+unfoldable pub acceptedFinish : (number : ℕ) → Entry → Bool
+acceptedFinish number e = isDone (e .outcome) && isFinishOf number (e .call)
+
+-- what a slot's answer says of a task
+unfoldable pub saysRan : (number : ℕ) → Entry → Bool
+saysRan number e = acceptedSlot e && getD (e .report .ran) (number - 1) false
+
+unfoldable pub saysFinished : (number : ℕ) → Entry → Bool
+saysFinished number e = acceptedSlot e && getD (e .report .finished) (number - 1) false
+
+-- "only accepted slots are counted"
+unfoldable pub slotCount : List Entry → ℕ
+slotCount [] = 0
+slotCount (e ∷ log) = cond (acceptedSlot e) (suc (slotCount log)) (slotCount log)
+
+-- the entries "up to and including" the d-th accepted slot
+unfoldable pub upToSlot : (d : ℕ) → List Entry → List Entry
+upToSlot d [] = []
+upToSlot d (e ∷ log) = cond (eqb d 0) [] (e ∷ upToSlot (cond (acceptedSlot e) (d - 1) d) log)
+
+-- "C slot answers say that the task ran, the C-th of them also that it finished"
+unfoldable pub ranWhole : (number c : ℕ) → List Entry → Bool
+ranWhole number c [] = false
+ranWhole number c (e ∷ log) =
+    cond (saysRan number e) (cond (leb c 1) (saysFinished number e) (ranWhole number (c - 1) log)) (ranWhole number c log)
+
+-- "a finish of the task is accepted"
+unfoldable pub anyFinish : (number : ℕ) → List Entry → Bool
+anyFinish number [] = false
+anyFinish number (e ∷ log) = acceptedFinish number e || anyFinish number log
+
+-- "closed by the D-th slot after that release": among the entries after it up to and including that slot
+unfoldable pub closedBySlot : (number : ℕ) → Task → (after : List Entry) → Bool
+closedBySlot number task after =
+    let window = upToSlot (task .deadline) after in
+    ranWhole number (task .budget) window || anyFinish number window
+
+-- the table after an accepted call: a join adds its task
+unfoldable pub joinedBy : Call → Table → Table
+joinedBy (Release number) t = t
+joinedBy (Finish number) t = t
+joinedBy Slot t = t
+joinedBy (Join task) t = withTask t task
+
+-- the table after some calls: the one started on, with the task of each accepted join
+unfoldable pub tableAfter : Table → List Entry → Table
+tableAfter t [] = t
+tableAfter t (e ∷ log) = tableAfter (cond (isDone (e .outcome)) (joinedBy (e .call) t) t) log
+
+-- the whole claim of a log from a machine started on the table t
+pub record InTime (t : Table) (log : List Entry) : Type 0 where
+  -- no slot reports a late job: "its answer says of some task that it was late"
+  pub none-late :
+      (before after : List Entry) (e : Entry) → log ≡ before ++ e ∷ after → isSlot (e .call) ≡ true
+      → (i : ℕ) → getD (e .report .late) i false ≡ false
+  -- "The job of an accepted release of a task with budget C and deadline D is closed by the D-th slot after that release"
+  pub all-closed :
+      (before after : List Entry) (e : Entry) (number : ℕ) → log ≡ before ++ e ∷ after
+      → e .call ≡ Release number → isDone (e .outcome) ≡ true
+      → let task = getD (tableAfter t before .tasks) (number - 1) zeroTask in
+      task .deadline ≤ slotCount after → closedBySlot number task after ≡ true
+
+-- the claim of every list of calls from a fresh machine on a table that is admitted
+unfoldable pub Promise : Table → (cores : ℕ) → Type 0
+Promise t cores = judged t cores .admits ≡ true → (calls : List Call) → InTime t (play (start t cores .machine) calls)
+
+-- what a start gives: its answer, and the promise
+pub record Started (t : Table) (cores : ℕ) (answer : Answer) : Type 0 where
+  pub is : answer ≡ start t cores
+  pub in-time : Promise t cores

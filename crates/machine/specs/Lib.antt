@@ -1,0 +1,11 @@
+pub mod Job
+pub mod Precedence
+pub mod Pick
+pub mod Slot
+pub mod Sound
+pub mod Calls
+pub mod Play
+pub mod InTime
+pub mod Mask
+pub mod Cases
+pub mod Examples

@@ -1,0 +1,79 @@
+// What a call answers.
+use crate::job::Machine;
+use tasks::limits::MAX_TASKS;
+use tasks::outcome::Outcome;
+ghost use mathlib.Core.Path.{_≡_};
+ghost use Rattle.machine.specs.Mask.{mask};
+ghost use Rattle.machine.specs.Slot.{noReport};
+ghost use Rattle.machine.specs.Calls.{done, refuse};
+
+// One flag for each task.
+pub type Flags = [bool; MAX_TASKS];
+
+// What a slot says of each task, and how many ran. Every other call, and a refused slot, says nothing of any task.
+pub struct Report {
+    pub ran: [bool; MAX_TASKS],
+    pub finished: [bool; MAX_TASKS],
+    pub late: [bool; MAX_TASKS],
+    pub runners: u32,
+}
+
+// The machine after the call, whether the call was carried out, and a slot's report.
+pub struct Answer {
+    pub machine: Machine,
+    pub outcome: Outcome,
+    pub report: Report,
+}
+
+impl Report {
+    // A report that names no task.
+    pub fn none() -> Self
+        ensures { λ r. ⌜ r ≡ noReport ⌝ }
+    {
+        Report {
+            ran: [false; MAX_TASKS],
+            finished: [false; MAX_TASKS],
+            late: [false; MAX_TASKS],
+            runners: 0,
+        }
+    }
+}
+
+impl Answer {
+    // A call that was carried out and reports nothing.
+    pub fn done(machine: Machine) -> Self
+        ensures { λ r. ⌜ r ≡ done machine ⌝ }
+    {
+        let report = Report::none();
+        Answer {
+            machine,
+            outcome: Outcome::Done,
+            report,
+        }
+    }
+
+    // A call that was refused and left the machine as it was.
+    pub fn refused(machine: Machine, number: u32) -> Self
+        ensures { λ r. ⌜ r ≡ refuse machine number ⌝ }
+    {
+        let report = Report::none();
+        Answer {
+            machine,
+            outcome: Outcome::Refused { number, place: 0 },
+            report,
+        }
+    }
+}
+
+// The tasks that are named, as the sum of 2 to the power (task number - 1).
+pub fn mask(named: Flags) -> u64
+    ensures { λ r. ⌜ r ≡ mask named ⌝ }
+{
+    let mut sum: u64 = 0;
+    let mut i: usize = MAX_TASKS;
+    while 0 < i {
+        i -= 1;
+        sum = named[i] as u64 + 2 * sum;
+    }
+    sum
+}

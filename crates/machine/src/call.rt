@@ -1,0 +1,28 @@
+// The calls of the machine, and one step by a call.
+use crate::answer::Answer;
+use crate::job::Machine;
+use tasks::task::Task;
+ghost use mathlib.Core.Path.{_≡_};
+ghost use Rattle.machine.specs.Calls.{step};
+
+// Release and Finish name a task by its number, from 1.
+pub enum Call {
+    Release(u32),
+    Finish(u32),
+    Slot,
+    Join(Task),
+}
+
+impl Machine {
+    // What a call does to the machine, and what it answers.
+    pub fn step(self, call: Call) -> Answer
+        ensures { λ r. ⌜ r ≡ step self call ⌝ }
+    {
+        match call {
+            Call::Release(number) => self.release(number),
+            Call::Finish(number) => self.finish(number),
+            Call::Slot => self.slot(),
+            Call::Join(task) => self.join(task),
+        }
+    }
+}

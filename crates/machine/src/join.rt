@@ -1,0 +1,81 @@
+// A join.
+use crate::answer::Answer;
+use crate::answer::Report;
+use crate::calls::fresh_job;
+use crate::job::Machine;
+use judge::Verdict;
+use tasks::limits::MAX_TASKS;
+use tasks::outcome::Outcome;
+use tasks::refusals::NOT_ADMITTED;
+use tasks::refusals::TABLE_FULL;
+use tasks::refusals::TASK_OUT_OF_RANGE;
+use tasks::refusals::UNSOUND_MACHINE;
+use tasks::task::Task;
+ghost use Prim.Native.Nat.{_<_};
+ghost use mathlib.Core.Path.{_≡_};
+ghost use Rattle.judge.specs.Judge.{valuesOf};
+ghost use Rattle.machine.specs.Slot.{noReport};
+ghost use Rattle.machine.specs.Calls.{withJoined, join};
+
+impl Machine {
+    // The machine with the task at the end of its table, closed.
+    fn with_joined(mut self, task: Task) -> Self
+        requires { ⌜ self .table .count < 32 ⌝ }
+        ensures { λ r. ⌜ r ≡ withJoined self task ⌝ }
+    {
+        let mut table = self.table;
+        let count = table.count;
+        table.tasks[count] = task;
+        table.count = count + 1;
+        self.table = table;
+        self.jobs[count] = fresh_job();
+        self
+    }
+
+    // The judge's own refusal, handed on with the machine as it is.
+    fn denied(self, verdict: Verdict) -> Answer
+        ensures { λ r. ⌜ r ≡ record { machine = self; outcome = valuesOf verdict .outcome; report = noReport } ⌝ }
+    {
+        let report = Report::none();
+        match verdict {
+            Verdict::Refused { number, place } => Answer {
+                machine: self,
+                outcome: Outcome::Refused { number, place },
+                report,
+            },
+            Verdict::Judged {
+                count: _,
+                admitted: _,
+            } => Answer {
+                machine: self,
+                outcome: Outcome::Done,
+                report,
+            },
+        }
+    }
+
+    // A task joins, if the longer table is admitted on the machine's cores.
+    pub fn join(self, task: Task) -> Answer
+        ensures { λ r. ⌜ r ≡ join self task ⌝ }
+    {
+        if !self.is_sound() {
+            return Answer::refused(self, UNSOUND_MACHINE);
+        }
+        if !task.in_range() {
+            return Answer::refused(self, TASK_OUT_OF_RANGE);
+        }
+        if MAX_TASKS <= self.table.count {
+            return Answer::refused(self, TABLE_FULL);
+        }
+        let longer = self.with_joined(task);
+        let table = longer.table;
+        let verdict = judge::judge(table, self.cores);
+        let Verdict::Judged { count: _, admitted } = verdict else {
+            return self.denied(verdict);
+        };
+        if !admitted {
+            return Answer::refused(self, NOT_ADMITTED);
+        }
+        Answer::done(longer)
+    }
+}

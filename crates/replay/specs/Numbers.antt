@@ -1,0 +1,18 @@
+-- Numbers of a script: their digits and their value are those of a table's values.
+use Prim.Native.Nat.{ℕ}
+use mathlib.Core.List.{List}
+use mathlib.Core.Bool.{Bool, cond, not, _&&_}
+use lib.Dec.{leb}
+use lib.ListN.{length}
+use Rattle.reader.specs.Value.{allDigits, leadingZero, decimal}
+use Rattle.replay.specs.declared.numbers.Number.{Number}
+use Rattle.replay.specs.declared.numbers.Number.the-variants.{Read, Broken}
+
+-- 1 to 10 digits without a leading zero, at most 4,294,967,295
+unfoldable pub isNumber : List ℕ → Bool
+isNumber f =
+    leb 1 (length f) && leb (length f) 10 && not (leadingZero f) && allDigits f && leb (decimal f) 4294967295
+
+-- the number that the field f is, and its length
+unfoldable pub numberOf : List ℕ → Number
+numberOf f = cond (isNumber f) (Read (decimal f) (length f)) Broken

@@ -1,0 +1,43 @@
+-- What the verdict program prints: document 01, "The table as text".
+use Prim.Native.Nat.{ℕ, zero, suc, _+_, _/_, _%_, min}
+use mathlib.Core.Bool.{cond}
+use mathlib.Core.List.{List, [], _∷_, _++_}
+use lib.Dec.{ltb}
+use Rattle.tasks.specs.declared.table.Table.{Table}
+use Rattle.tasks.specs.declared.outcome.Outcome.{Outcome}
+use Rattle.tasks.specs.declared.outcome.Outcome.the-variants.{Done, Refused}
+use Rattle.tasks.specs.Limits.{maxCores}
+use Rattle.reader.specs.Lines.{lineEnd, space}
+use Rattle.reader.specs.Reading.{reading}
+use Rattle.judge.specs.Judge.{judged}
+
+-- "CORES COUNT ADMIT" and byte 10: "a line of names"
+unfoldable pub header : List ℕ
+header = 67 ∷ 79 ∷ 82 ∷ 69 ∷ 83 ∷ 32 ∷ 67 ∷ 79 ∷ 85 ∷ 78 ∷ 84 ∷ 32 ∷ 65 ∷ 68 ∷ 77 ∷ 73 ∷ 84 ∷ 10 ∷ []
+
+-- "REFUSED" and a space
+unfoldable pub refusedWord : List ℕ
+refusedWord = 82 ∷ 69 ∷ 70 ∷ 85 ∷ 83 ∷ 69 ∷ 68 ∷ 32 ∷ []
+
+-- a number below 100 in base ten: one digit or two
+unfoldable pub decimalText : ℕ → List ℕ
+decimalText n = cond (ltb n 10) ((48 + n) ∷ []) ((48 + n / 10) ∷ (48 + n % 10) ∷ [])
+
+-- "m, COUNT, and 1 for admitted or 0"
+unfoldable pub verdictLine : Table → (m : ℕ) → List ℕ
+verdictLine t m =
+    decimalText m ++ space ∷ decimalText (judged t m .count) ++ space ∷ cond (judged t m .admits) 49 48 ∷ lineEnd ∷ []
+
+-- "a line of names, then for m = 1 up to" n
+unfoldable pub verdictLines : Table → (n : ℕ) → List ℕ
+verdictLines t zero = header
+verdictLines t (suc n) = verdictLines t n ++ verdictLine t (suc n)
+
+-- "the smaller of 16 and the number of tasks"; "A refused table prints `REFUSED`, a space and the refusal number"
+unfoldable pub printedAfter : Outcome → Table → List ℕ
+printedAfter Done t = verdictLines t (min maxCores (t .count))
+printedAfter (Refused number place) t = refusedWord ++ decimalText number ++ lineEnd ∷ []
+
+-- what is printed for a text
+unfoldable pub printed : List ℕ → List ℕ
+printed text = printedAfter (reading text .outcome) (reading text .table)

@@ -1,0 +1,196 @@
+//! The dispatching machine: document 01, "The slot machine", with the refusals
+//! of "Why a call is not carried out".
+
+use crate::tasks::{MOST_CORES, MOST_TASKS, Refusal, Task};
+use crate::window::judge;
+
+/// What the machine holds for one task besides its three numbers.
+#[derive(Clone, Copy, Debug, Default, PartialEq, Eq)]
+pub struct Job {
+    pub open: bool,
+    /// Slots to the deadline.
+    pub left: u32,
+    /// Slots still owed.
+    pub budget: u32,
+    /// Slots until the next release is allowed.
+    pub gap: u32,
+}
+
+/// The table, m, and one job record for each task.
+#[derive(Clone, Debug, PartialEq, Eq)]
+pub struct Machine {
+    pub table: Vec<Task>,
+    pub cores: u32,
+    pub jobs: Vec<Job>,
+}
+
+/// What a slot tells, each set of tasks as the sum of 2 to the power
+/// (task number − 1), and the number of tasks that ran.
+#[derive(Clone, Copy, Debug, Default, PartialEq, Eq)]
+pub struct Slot {
+    pub ran: u32,
+    pub finished: u32,
+    pub late: u32,
+    pub runners: u32,
+}
+
+impl Job {
+    /// Open, and left ≤ budget.
+    pub fn urgent(&self) -> bool {
+        self.open && self.left <= self.budget
+    }
+
+    // "Finish" and step 4 of a slot: a closed task has left 0 and budget 0, gap stays.
+    fn close(&mut self) {
+        self.open = false;
+        self.left = 0;
+        self.budget = 0;
+    }
+
+    // Number 0 for one task.
+    fn is_sound(&self, task: &Task) -> bool {
+        let numbers = if self.open {
+            (1..=task.deadline).contains(&self.left) && (1..=task.budget).contains(&self.budget)
+        } else {
+            self.left == 0 && self.budget == 0
+        };
+        numbers && self.gap <= task.period
+    }
+}
+
+impl Machine {
+    /// A fresh machine, on admitted and on refused tables. Refusals: those of judging.
+    pub fn start(table: &[Task], cores: u32) -> Result<Machine, Refusal> {
+        judge(table, cores)?;
+        Ok(Machine {
+            table: table.to_vec(),
+            cores,
+            jobs: vec![Job::default(); table.len()],
+        })
+    }
+
+    /// Release of a task. Refusals: 0, 8, 9, 10.
+    pub fn release(&mut self, number: u32) -> Result<(), Refusal> {
+        self.check_soundness()?;
+        let index = self.index(number)?;
+        let (task, job) = (self.table[index], &mut self.jobs[index]);
+        if job.gap > 0 {
+            return Err(Refusal::whole(9));
+        }
+        if job.open {
+            return Err(Refusal::whole(10));
+        }
+        *job = Job {
+            open: true,
+            left: task.deadline,
+            budget: task.budget,
+            gap: task.period,
+        };
+        Ok(())
+    }
+
+    /// Finish of a task's job. Refusals: 0, 8, 11.
+    pub fn finish(&mut self, number: u32) -> Result<(), Refusal> {
+        self.check_soundness()?;
+        let index = self.index(number)?;
+        if !self.jobs[index].open {
+            return Err(Refusal::whole(11));
+        }
+        self.jobs[index].close();
+        Ok(())
+    }
+
+    /// One slot, its four steps in order. Refusal: 0.
+    pub fn slot(&mut self) -> Result<Slot, Refusal> {
+        self.check_soundness()?;
+        let picked = self.pick();
+        // Step 2.
+        for index in &picked {
+            self.jobs[*index].budget -= 1;
+        }
+        // Step 3.
+        for job in &mut self.jobs {
+            job.left -= u32::from(job.open);
+            job.gap = job.gap.saturating_sub(1);
+        }
+        Ok(self.close_jobs(&picked))
+    }
+
+    /// Join of a task at the end of the table. Refusals: 0, 5, 12, 13.
+    pub fn join(&mut self, task: Task) -> Result<(), Refusal> {
+        self.check_soundness()?;
+        if !task.fits() {
+            return Err(Refusal::whole(5));
+        }
+        if self.table.len() == MOST_TASKS {
+            return Err(Refusal::whole(12));
+        }
+        let mut longer = self.table.clone();
+        longer.push(task);
+        // A verdict that is a refusal ends the join with that refusal.
+        if !judge(&longer, self.cores)?.admitted {
+            return Err(Refusal::whole(13));
+        }
+        self.table = longer;
+        self.jobs.push(Job::default());
+        Ok(())
+    }
+
+    // Step 1: the first min(m, number open) open tasks in precedence, from 0.
+    fn pick(&self) -> Vec<usize> {
+        let open = (0..self.jobs.len()).filter(|index| self.jobs[*index].open);
+        let mut order: Vec<usize> = open.collect();
+        order.sort_by_key(|index| self.precedence(*index));
+        order.truncate(usize::try_from(self.cores).expect("at most 16 cores"));
+        order
+    }
+
+    // Urgent before not urgent; then smaller left; then lower number.
+    fn precedence(&self, index: usize) -> (bool, u32, usize) {
+        let job = &self.jobs[index];
+        (!job.urgent(), job.left, index)
+    }
+
+    // Step 4: budget 0 closes as finished, any other with left 0 closes as late.
+    fn close_jobs(&mut self, picked: &[usize]) -> Slot {
+        let mut slot = Slot {
+            ran: picked.iter().map(|index| 1 << index).sum(),
+            runners: u32::try_from(picked.len()).expect("at most 16 runners"),
+            ..Slot::default()
+        };
+        for (index, job) in self.jobs.iter_mut().enumerate() {
+            if job.open && job.budget == 0 {
+                job.close();
+                slot.finished += 1 << index;
+            } else if job.open && job.left == 0 {
+                job.close();
+                slot.late += 1 << index;
+            }
+        }
+        slot
+    }
+
+    // Number 8, or the place of a task in the table from 0.
+    fn index(&self, number: u32) -> Result<usize, Refusal> {
+        let number = usize::try_from(number).expect("a number of 32 bits");
+        if (1..=self.table.len()).contains(&number) {
+            Ok(number - 1)
+        } else {
+            Err(Refusal::whole(8))
+        }
+    }
+
+    // Number 0: no start, release, finish, slot or join leaves such a machine.
+    fn check_soundness(&self) -> Result<(), Refusal> {
+        let starts = (1..=MOST_TASKS).contains(&self.table.len())
+            && self.table.iter().all(Task::fits)
+            && (1..=MOST_CORES).contains(&self.cores)
+            && self.jobs.len() == self.table.len();
+        let mut held = self.table.iter().zip(&self.jobs);
+        if starts && held.all(|(task, job)| job.is_sound(task)) {
+            Ok(())
+        } else {
+            Err(Refusal::whole(0))
+        }
+    }
+}

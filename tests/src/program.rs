@@ -1,0 +1,63 @@
+//! Runs a program under test, one process for each text.
+
+use std::env;
+use std::io::{ErrorKind, Write};
+use std::path::{Path, PathBuf};
+use std::process::{Child, ChildStdin, Command, Stdio};
+use std::thread;
+
+/// Everything that the verdict program prints for a text on standard input.
+pub fn verdict_output(text: &[u8]) -> Vec<u8> {
+    output("VERDICT", "verdict", text)
+}
+
+/// Everything that the program that prints a whole reading prints for a text.
+pub fn reading_output(text: &[u8]) -> Vec<u8> {
+    output("READING", "reading", text)
+}
+
+/// Everything that the program that replays calls prints for a script.
+pub fn replay_output(text: &[u8]) -> Vec<u8> {
+    output("REPLAY", "replay", text)
+}
+
+fn output(variable: &str, name: &str, text: &[u8]) -> Vec<u8> {
+    let mut child = start(&path(variable, name));
+    let input = child.stdin.take().expect("a piped standard input");
+    // Fed from a thread of its own: a program may answer while it still reads.
+    let output = thread::scope(|scope| {
+        scope.spawn(|| feed(input, text));
+        child.wait_with_output().expect("the program's output")
+    });
+    // No exit status is settled: only a death by signal is a failure.
+    assert!(
+        output.status.code().is_some(),
+        "{name} died ({}) on \"{}\"",
+        output.status,
+        text.escape_ascii()
+    );
+    output.stdout
+}
+
+/// The program that the variable names, or the built one. A relative path starts
+/// from the manifest's folder.
+pub fn path(variable: &str, name: &str) -> PathBuf {
+    let named = env::var(variable).unwrap_or_else(|_| format!("../target/bin/{name}"));
+    Path::new(env!("CARGO_MANIFEST_DIR")).join(named)
+}
+
+fn start(path: &Path) -> Child {
+    Command::new(path)
+        .stdin(Stdio::piped())
+        .stdout(Stdio::piped())
+        .spawn()
+        .unwrap_or_else(|error| panic!("cannot start {}: {error}", path.display()))
+}
+
+// A program may stop reading at a bad line or after its last byte, so a closed
+// pipe is no failure.
+fn feed(mut input: ChildStdin, text: &[u8]) {
+    if let Err(error) = input.write_all(text) {
+        assert_eq!(error.kind(), ErrorKind::BrokenPipe, "{error}");
+    }
+}

@@ -1,0 +1,150 @@
+//! Demand 3 (document 01, "Demand 3 is a single claim about the whole list of
+//! calls"), read from a script and its printed answers alone: on an admitted
+//! table no slot reports a late job, and each released job is closed in time.
+
+use crate::reading::read;
+use crate::script::{Call, Script};
+use crate::tasks::Task;
+use crate::window::judge;
+
+/// How many released jobs were closed by running and by a finish, and how many
+/// were still open when the calls ended before the deadline.
+#[derive(Clone, Copy, Debug, Default, PartialEq, Eq)]
+pub struct Kept {
+    pub by_running: u64,
+    pub by_a_finish: u64,
+    pub undecided: u64,
+}
+
+// A job of an accepted release that is not closed yet.
+struct Watch {
+    number: u32,
+    // Slot answers that must still say that the task ran.
+    runs: u32,
+    // Accepted slots up to and including the D-th after the release.
+    slots: u32,
+}
+
+// The four numbers of an accepted slot.
+struct Printed {
+    ran: u32,
+    finished: u32,
+    late: u32,
+}
+
+/// Whether the demand speaks of this script: its start table is admitted.
+pub fn applies(script: &Script) -> bool {
+    let verdict = read(&script.table).and_then(|table| judge(&table, script.cores));
+    verdict.is_ok_and(|verdict| verdict.admitted)
+}
+
+/// The demand on a script with an admitted start table and what was printed.
+pub fn check(script: &Script, printed: &str) -> Result<Kept, String> {
+    let table = read(&script.table).map_err(|refusal| format!("{refusal:?}"))?;
+    let mut record = Record {
+        table,
+        open: Vec::new(),
+        kept: Kept::default(),
+    };
+    let mut answers = printed.lines();
+    for (place, call) in (1..).zip(&script.calls) {
+        if matches!(call, Call::Bad(_)) {
+            break;
+        }
+        let answer = answers.next().ok_or(format!("call {place}: no answer"))?;
+        if !answer.starts_with("REFUSED ") {
+            let fault = record.accept(*call, answer);
+            fault.map_err(|fault| format!("call {place}: {fault}"))?;
+        }
+    }
+    record.kept.undecided = u64::try_from(record.open.len()).expect("a count of 64 bits");
+    Ok(record.kept)
+}
+
+// The tasks so far and the jobs whose closing is still awaited.
+struct Record {
+    table: Vec<Task>,
+    open: Vec<Watch>,
+    kept: Kept,
+}
+
+impl Record {
+    fn accept(&mut self, call: Call, answer: &str) -> Result<(), String> {
+        if call == Call::Slot {
+            return self.slot(&numbers(answer)?);
+        }
+        if answer != "DONE" {
+            return Err(format!("no answer to such a call: {answer}"));
+        }
+        match call {
+            Call::Release(number) => self.release(number)?,
+            Call::Finish(number) => self.finish(number),
+            Call::Join(task) => self.table.push(task),
+            Call::Slot | Call::Bad(_) => {}
+        }
+        Ok(())
+    }
+
+    fn release(&mut self, number: u32) -> Result<(), String> {
+        let index = usize::try_from(number).expect("a number of 32 bits");
+        let task = index.checked_sub(1).and_then(|index| self.table.get(index));
+        let task = task.ok_or(format!("a release of no task, {number}"))?;
+        self.open.push(Watch {
+            number,
+            runs: task.budget,
+            slots: task.deadline,
+        });
+        Ok(())
+    }
+
+    // An accepted finish closes the jobs released before it.
+    fn finish(&mut self, number: u32) {
+        let before = self.open.len();
+        self.open.retain(|watch| watch.number != number);
+        let closed = before - self.open.len();
+        self.kept.by_a_finish += u64::try_from(closed).expect("a count of 64 bits");
+    }
+
+    // No late job, and no job still open after its D-th slot.
+    fn slot(&mut self, printed: &Printed) -> Result<(), String> {
+        if printed.late != 0 {
+            return Err(format!("late jobs, {}", printed.late));
+        }
+        let before = self.open.len();
+        self.open.retain_mut(|watch| !watch.is_closed_by(printed));
+        let closed = before - self.open.len();
+        self.kept.by_running += u64::try_from(closed).expect("a count of 64 bits");
+        match self.open.iter().find(|watch| watch.slots == 0) {
+            Some(watch) => Err(format!("a job of task {} is not closed", watch.number)),
+            None => Ok(()),
+        }
+    }
+}
+
+impl Watch {
+    // The C-th slot in which the task ran must also say that it finished.
+    fn is_closed_by(&mut self, printed: &Printed) -> bool {
+        self.slots -= 1;
+        let ran = holds(printed.ran, self.number) && self.runs > 0;
+        self.runs -= u32::from(ran);
+        ran && self.runs == 0 && holds(printed.finished, self.number)
+    }
+}
+
+// Whether a sum of 2 to the power (task number − 1) holds a task.
+fn holds(sum: u32, number: u32) -> bool {
+    sum.checked_shr(number - 1)
+        .is_some_and(|rest| rest & 1 == 1)
+}
+
+fn numbers(answer: &str) -> Result<Printed, String> {
+    let fields: Result<Vec<u32>, _> = answer.split(' ').map(str::parse).collect();
+    match fields.as_deref() {
+        Ok(&[ran, finished, late, _]) => Ok(Printed {
+            ran,
+            finished,
+            late,
+        }),
+        _ => Err(format!("no answer of a slot: {answer}")),
+    }
+}

@@ -1,0 +1,135 @@
+//! Scripts for the program that replays calls: the number of cores, a table as
+//! text and a list of calls, with the answers that document 01 expects.
+
+use std::fmt;
+
+use crate::machine::{Machine, Slot};
+use crate::reading::{LINE_END, read};
+use crate::tasks::{Refusal, Task};
+
+/// The longest script, in bytes.
+pub const MOST_SCRIPT_BYTES: usize = 65_536;
+
+/// One line after the line CALLS.
+#[derive(Clone, Copy, Debug, PartialEq, Eq)]
+pub enum Call {
+    Release(u32),
+    Finish(u32),
+    Slot,
+    Join(Task),
+    /// A line that is no call.
+    Bad(&'static str),
+}
+
+/// The answer to one call, or to the start when the table or m is refused.
+#[derive(Clone, Copy, Debug, PartialEq, Eq)]
+pub enum Answer {
+    Done,
+    Ran(Slot),
+    Refused(u32),
+    /// The number of a line that is no call, from 1 in the whole script.
+    BadLine(usize),
+}
+
+#[derive(Clone, Debug, PartialEq, Eq)]
+pub struct Script {
+    pub cores: u32,
+    /// The table as text: empty, or ended by byte 10.
+    pub table: Vec<u8>,
+    pub calls: Vec<Call>,
+}
+
+impl fmt::Display for Call {
+    fn fmt(&self, line: &mut fmt::Formatter) -> fmt::Result {
+        match self {
+            Call::Release(number) => write!(line, "RELEASE {number}"),
+            Call::Finish(number) => write!(line, "FINISH {number}"),
+            Call::Slot => write!(line, "SLOT"),
+            Call::Join(task) => {
+                let Task {
+                    period,
+                    budget,
+                    deadline,
+                } = task;
+                write!(line, "JOIN {period} {budget} {deadline}")
+            }
+            Call::Bad(bytes) => write!(line, "{bytes}"),
+        }
+    }
+}
+
+impl fmt::Display for Answer {
+    fn fmt(&self, line: &mut fmt::Formatter) -> fmt::Result {
+        match self {
+            Answer::Done => write!(line, "DONE"),
+            Answer::Ran(slot) => {
+                let Slot {
+                    ran,
+                    finished,
+                    late,
+                    runners,
+                } = slot;
+                write!(line, "{ran} {finished} {late} {runners}")
+            }
+            Answer::Refused(number) => write!(line, "REFUSED {number}"),
+            Answer::BadLine(number) => write!(line, "BAD LINE {number}"),
+        }
+    }
+}
+
+impl Script {
+    /// The script as the program reads it.
+    pub fn text(&self) -> Vec<u8> {
+        let mut text = format!("CORES {}\n", self.cores).into_bytes();
+        text.extend_from_slice(&self.table);
+        text.extend_from_slice(b"CALLS\n");
+        text.extend_from_slice(lines(&self.calls).as_bytes());
+        text
+    }
+
+    /// A fresh machine on the script's table, or the refusal of reading or starting.
+    pub fn start(&self) -> Result<Machine, Refusal> {
+        Machine::start(&read(&self.table)?, self.cores)
+    }
+
+    /// The answers of the simulated machine. A refused start is the only one,
+    /// and a line that is no call the last one.
+    pub fn play(&self) -> Vec<Answer> {
+        let mut machine = match self.start() {
+            Ok(machine) => machine,
+            Err(refusal) => return vec![Answer::Refused(refusal.number)],
+        };
+        let mut answers = Vec::new();
+        for (index, call) in self.calls.iter().enumerate() {
+            if matches!(call, Call::Bad(_)) {
+                answers.push(Answer::BadLine(self.first_call_line() + index));
+                break;
+            }
+            answers.push(carry_out(&mut machine, *call));
+        }
+        answers
+    }
+
+    // The line CORES, the lines of the table and the line CALLS come before.
+    fn first_call_line(&self) -> usize {
+        let table_lines = self.table.iter().filter(|byte| **byte == LINE_END);
+        table_lines.count() + 3
+    }
+}
+
+/// Calls or answers as lines, each ended by byte 10.
+pub fn lines<T: fmt::Display>(items: &[T]) -> String {
+    items.iter().map(|item| format!("{item}\n")).collect()
+}
+
+/// One call on the simulated machine.
+pub fn carry_out(machine: &mut Machine, call: Call) -> Answer {
+    let answer = match call {
+        Call::Release(number) => machine.release(number).map(|()| Answer::Done),
+        Call::Finish(number) => machine.finish(number).map(|()| Answer::Done),
+        Call::Slot => machine.slot().map(Answer::Ran),
+        Call::Join(task) => machine.join(task).map(|()| Answer::Done),
+        Call::Bad(line) => panic!("no call: {line}"),
+    };
+    answer.unwrap_or_else(|refusal| Answer::Refused(refusal.number))
+}

@@ -1,0 +1,322 @@
+//! Random scripts: most of them play many calls on tables near the edge of
+//! admission, and some are refused at the start or end at a bad line.
+
+use crate::machine::{Job, Machine};
+use crate::random::Random;
+use crate::reading::{LINE_END, MOST_BYTES, read};
+use crate::script::{Call, MOST_SCRIPT_BYTES, Script, carry_out};
+use crate::tables;
+use crate::tasks::{LONGEST_PERIOD, MOST_CORES, MOST_TASKS, Task};
+use crate::texts::{self, ORDERS};
+use crate::window::judge;
+
+/// The most calls of one script.
+pub const MOST_CALLS: usize = 1_000;
+
+// How often each kind of call comes, out of 64; the rest are slots. A release
+// for which no task is due becomes a slot.
+#[derive(Clone, Copy)]
+struct Rates {
+    release: usize,
+    finish: usize,
+    join: usize,
+    odd: usize,
+}
+
+const PERIODIC: Rates = rates(64, 0, 0, 0);
+const DENSE: Rates = rates(44, 3, 1, 4);
+const BUSY: Rates = rates(32, 1, 0, 1);
+const SPARSE: Rates = rates(8, 3, 1, 4);
+const WILD: Rates = rates(16, 10, 6, 16);
+const JOINING: Rates = rates(16, 2, 24, 4);
+
+// Lines that are no call by the format: other words, counts, digits and bytes.
+const BAD_LINES: [&str; 16] = [
+    "SLOTS",
+    "slot",
+    "SLOT 1",
+    "RELEASE",
+    "RELEASE x",
+    "RELEASE -1",
+    "RELEASE 01",
+    "RELEASE 1 1",
+    "FINISH",
+    "FINISH 1x",
+    "FINISH 4294967296",
+    "FINISH 12345678901",
+    "JOIN",
+    "JOIN 4 1",
+    "JOIN 4 1 4 4",
+    "STOP 1",
+];
+
+/// The script with this index under this seed.
+pub fn script(seed: u64, index: u64) -> Script {
+    let mut random = Random::new(seed, index);
+    let script = match random.below(40) {
+        0 => of_any_text(&mut random),
+        1 => on_odd_cores(&mut random),
+        2 => ended_by_a_bad_line(&mut random),
+        3..=5 => growing(&mut random),
+        6..=8 => overloaded(&mut random),
+        9..=23 => packed(&mut random),
+        _ => near_edge(&mut random),
+    };
+    assert!(script.text().len() <= MOST_SCRIPT_BYTES);
+    script
+}
+
+// A text of the reader's checks, most of them refused, on any m.
+fn of_any_text(random: &mut Random) -> Script {
+    let mut table = any_text(random);
+    table.truncate(MOST_BYTES + 1);
+    if table.last().is_some_and(|byte| *byte != LINE_END) {
+        table.push(LINE_END);
+    }
+    let cores = random.pick(&[0, 1, 2, 16, 17]);
+    with_calls(random, cores, table, SPARSE)
+}
+
+fn any_text(random: &mut Random) -> Vec<u8> {
+    if random.one_in(10) {
+        return texts::write(&[], random.pick(&ORDERS));
+    }
+    loop {
+        let text = texts::text(random.bits(), random.bits());
+        if read(&text).is_err() || random.one_in(8) {
+            return text;
+        }
+    }
+}
+
+// m outside 1 to 16: the start is refused whatever the calls are.
+fn on_odd_cores(random: &mut Random) -> Script {
+    let table = tables::valid(random);
+    let any = random.between(18, u32::MAX);
+    let cores = random.pick(&[0, 17, 32, 256 + 2, 65_536 + 2, u32::MAX, any]);
+    let text = texts::write(&table, random.pick(&ORDERS));
+    with_calls(random, cores, text, WILD)
+}
+
+fn ended_by_a_bad_line(random: &mut Random) -> Script {
+    let mut script = near_edge(random);
+    let at = random.below(script.calls.len() + 1);
+    script.calls.insert(at, Call::Bad(random.pick(&BAD_LINES)));
+    script
+}
+
+// Light tasks on many cores, so that joins reach 32 tasks.
+fn growing(random: &mut Random) -> Script {
+    let tasks = 1 + random.below(MOST_TASKS);
+    let table: Vec<Task> = (0..tasks).map(|_| light(random)).collect();
+    let cores = random.between(2, MOST_CORES);
+    let rates = random.pick(&[JOINING, JOINING, WILD, DENSE]);
+    on_table(random, cores, &table, rates)
+}
+
+// Short tasks of large budgets on few cores: refused tables with late jobs.
+fn overloaded(random: &mut Random) -> Script {
+    let tasks = 2 + random.below(MOST_TASKS - 1);
+    let table: Vec<Task> = (0..tasks).map(|_| heavy(random)).collect();
+    let half = u32::try_from(tasks / 2).expect("at most 16");
+    let cores = random.between(1, half);
+    let rates = random.pick(&[PERIODIC, DENSE, DENSE, SPARSE, WILD]);
+    on_table(random, cores, &table, rates)
+}
+
+// An admitted table filled with short tasks until few more are admitted: jobs
+// compete for the cores and turn urgent.
+fn packed(random: &mut Random) -> Script {
+    let cores = random.pick(&[1, 2, 2, 2, 3, 3, 3, 4, 5, 6, 8, MOST_CORES]);
+    let mut table = vec![short(random)];
+    for _ in 0..100 {
+        table.push(short(random));
+        if !judge(&table, cores).is_ok_and(|verdict| verdict.admitted) {
+            table.pop();
+        }
+    }
+    let rates = random.pick(&[PERIODIC, PERIODIC, DENSE, BUSY]);
+    on_table(random, cores, &table, rates)
+}
+
+// Both sides of the m from which on the table is admitted, or any m.
+fn near_edge(random: &mut Random) -> Script {
+    let table = if random.one_in(4) {
+        tables::valid(random)
+    } else {
+        short_periods(random)
+    };
+    let refused = |cores: &u32| judge(&table, *cores).is_ok_and(|verdict| !verdict.admitted);
+    let last_refused = (1..=MOST_CORES).rfind(refused).unwrap_or(0);
+    let cores = match random.below(8) {
+        0 => random.between(1, MOST_CORES),
+        1 | 2 => last_refused.max(1),
+        _ => (last_refused + 1).min(MOST_CORES),
+    };
+    let rates = random.pick(&[PERIODIC, DENSE, DENSE, SPARSE, WILD, JOINING]);
+    on_table(random, cores, &table, rates)
+}
+
+// A table whose every task can be released more than once in a script.
+fn short_periods(random: &mut Random) -> Vec<Task> {
+    loop {
+        let table = tables::valid(random);
+        if table.iter().all(|task| task.period <= 100) {
+            return table;
+        }
+    }
+}
+
+// Budgets of 1 to 3. A cut to 8 or 16 bits would make two of the periods short.
+fn light(random: &mut Random) -> Task {
+    let period = random.pick(&[40, 60, 256 + 40, 1_000, 65_536 + 40, LONGEST_PERIOD]);
+    let deadline = random.between(period / 2, period);
+    Task::new(period, random.between(1, 3), deadline)
+}
+
+// Small spares, budgets of 1 or 2, or any.
+fn short(random: &mut Random) -> Task {
+    let period = random.between(2, 24);
+    let deadline = random.between(period.div_ceil(2), period);
+    let budget = match random.below(3) {
+        0 => deadline - random.between(0, deadline.min(4) - 1),
+        1 => random.between(1, deadline.min(2)),
+        _ => random.between(1, deadline),
+    };
+    Task::new(period, budget, deadline)
+}
+
+fn heavy(random: &mut Random) -> Task {
+    let period = random.between(1, 14);
+    let deadline = random.between(period.div_ceil(2), period);
+    let budget = random.between(deadline.div_ceil(3), deadline);
+    Task::new(period, budget, deadline)
+}
+
+fn on_table(random: &mut Random, cores: u32, table: &[Task], rates: Rates) -> Script {
+    let text = texts::write(table, random.pick(&ORDERS));
+    with_calls(random, cores, text, rates)
+}
+
+// The calls are chosen with a machine at hand, so that many are accepted.
+// Where the start is refused, any table serves to choose calls.
+fn with_calls(random: &mut Random, cores: u32, table: Vec<u8>, rates: Rates) -> Script {
+    let tasks = read(&table).unwrap_or_else(|_| vec![light(random)]);
+    let chosen = cores.clamp(1, MOST_CORES);
+    let mut machine = Machine::start(&tasks, chosen).expect("a table on 1 to 16 cores");
+    let mut calls = Vec::new();
+    for _ in 0..length(random) {
+        let call = next(random, &machine, rates);
+        carry_out(&mut machine, call);
+        calls.push(call);
+    }
+    Script {
+        cores,
+        table,
+        calls,
+    }
+}
+
+fn length(random: &mut Random) -> usize {
+    match random.below(16) {
+        0 => random.below(8),
+        1..=11 => 20 + random.below(180),
+        12..=14 => 200 + random.below(500),
+        _ => MOST_CALLS - random.below(2),
+    }
+}
+
+fn next(random: &mut Random, machine: &Machine, rates: Rates) -> Call {
+    let release = rates.release;
+    let finish = release + rates.finish;
+    let join = finish + rates.join;
+    let odd = join + rates.odd;
+    match random.below(64) {
+        roll if roll < release => release_due(random, machine),
+        roll if roll < finish => finish_open(random, machine),
+        roll if roll < join => Call::Join(joining(random, machine)),
+        roll if roll < odd => odd_call(random, machine),
+        _ => Call::Slot,
+    }
+}
+
+fn release_due(random: &mut Random, machine: &Machine) -> Call {
+    let due = some_task(random, machine, |job| !job.open && job.gap == 0);
+    due.map_or(Call::Slot, Call::Release)
+}
+
+fn finish_open(random: &mut Random, machine: &Machine) -> Call {
+    let open = some_task(random, machine, |job| job.open);
+    open.map_or(Call::Slot, Call::Finish)
+}
+
+// The number of a task whose job is so, if there is one.
+fn some_task(random: &mut Random, machine: &Machine, so: fn(&Job) -> bool) -> Option<u32> {
+    let numbers = (1..).zip(&machine.jobs);
+    let found: Vec<u32> = numbers.filter(|(_, job)| so(job)).map(|(i, _)| i).collect();
+    (!found.is_empty()).then(|| random.pick(&found))
+}
+
+// A task that may be admitted: light, as one of the table, or any.
+fn joining(random: &mut Random, machine: &Machine) -> Task {
+    match random.below(8) {
+        0..=3 => light(random),
+        4 => random.pick(&machine.table),
+        5 => heavy(random),
+        6 => odd_task(random),
+        _ => tables::of_tasks(random, 1)[0],
+    }
+}
+
+// Calls that are refused most of the time: too soon, of a closed or of no task,
+// or a join that breaks the limits.
+fn odd_call(random: &mut Random, machine: &Machine) -> Call {
+    let held = u32::try_from(machine.table.len()).expect("at most 32 tasks");
+    let any = random.between(1, held);
+    match random.below(8) {
+        0 | 1 => Call::Release(any),
+        2 => some_task(random, machine, |job| job.gap > 0).map_or(Call::Slot, Call::Release),
+        3 => some_task(random, machine, |job| !job.open).map_or(Call::Slot, Call::Finish),
+        4 => Call::Finish(any),
+        5 => Call::Release(no_task(random, held)),
+        6 => Call::Finish(no_task(random, held)),
+        _ => Call::Join(odd_task(random)),
+    }
+}
+
+// Numbers that are not in the table: the neighbours, and some that a cut to
+// fewer bits or a wrap would bring back into it.
+fn no_task(random: &mut Random, held: u32) -> u32 {
+    let far = random.between(held + 1, u32::MAX);
+    random.pick(&[0, held + 1, 33, 64, 256 + 1, 65_536 + 1, u32::MAX, far])
+}
+
+// A task outside 1 ≤ C ≤ D ≤ T ≤ 1,000,000, near or far, or at its edge.
+fn odd_task(random: &mut Random) -> Task {
+    let Task {
+        period,
+        budget,
+        deadline,
+    } = light(random);
+    match random.below(10) {
+        0 => Task::new(period, 0, deadline),
+        1 => Task::new(period, deadline + 1, deadline),
+        2 => Task::new(period, budget, period + 1),
+        3 => Task::new(LONGEST_PERIOD + 1, budget, deadline),
+        4 => Task::new(0, budget, deadline),
+        5 => Task::new(period, budget, 0),
+        6 => Task::new(u32::MAX, budget, deadline),
+        7 => Task::new(u32::MAX, u32::MAX, u32::MAX),
+        8 => Task::new(period, deadline, deadline),
+        _ => Task::new(LONGEST_PERIOD, budget, LONGEST_PERIOD),
+    }
+}
+
+const fn rates(release: usize, finish: usize, join: usize, odd: usize) -> Rates {
+    Rates {
+        release,
+        finish,
+        join,
+        odd,
+    }
+}

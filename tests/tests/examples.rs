@@ -1,0 +1,56 @@
+//! The tables and scripts of `examples/`, which the documents use. Every expected
+//! output is a literal.
+
+use std::fs;
+use std::path::Path;
+
+use edzl_tests::program;
+
+fn example(name: &str) -> Vec<u8> {
+    let path = Path::new(env!("CARGO_MANIFEST_DIR")).join("../examples");
+    fs::read(path.join(name)).expect(name)
+}
+
+fn check_table(name: &str, printed: &str) {
+    let output = program::verdict_output(&example(name));
+    assert_eq!(String::from_utf8_lossy(&output), printed, "{name}");
+}
+
+fn check_script(name: &str, printed: &str) {
+    let output = program::replay_output(&example(name));
+    assert_eq!(String::from_utf8_lossy(&output), printed, "{name}");
+}
+
+#[test]
+fn tables() {
+    check_table("example.table", "CORES COUNT ADMIT\n1 3 0\n2 1 1\n3 0 1\n");
+    check_table(
+        "three_tasks.table",
+        "CORES COUNT ADMIT\n1 3 0\n2 3 0\n3 0 1\n",
+    );
+    check_table("one_task.table", "CORES COUNT ADMIT\n1 1 1\n");
+    check_table("leading_zero.table", "REFUSED 4\n");
+}
+
+#[test]
+fn scripts() {
+    check_script(
+        "calls.replay",
+        "DONE\nDONE\nDONE\n7 1 0 3\nREFUSED 9\nDONE\nDONE\nDONE\n12 8 0 2\nREFUSED 5\n4 0 0 1\n",
+    );
+    check_script(
+        "case_j.replay",
+        "DONE\nDONE\nDONE\n3 0 0 2\n5 1 0 2\n6 2 0 2\n4 0 0 1\n4 0 0 1\n4 4 0 1\n",
+    );
+    check_script(
+        "refusals.replay",
+        "REFUSED 8\nREFUSED 8\nREFUSED 11\nDONE\nREFUSED 9\nDONE\nREFUSED 11\nREFUSED 9\nREFUSED 5\nREFUSED 13\n0 0 0 0\n",
+    );
+}
+
+// Every file of the folder is one of those above.
+#[test]
+fn no_example_is_left_out() {
+    let path = Path::new(env!("CARGO_MANIFEST_DIR")).join("../examples");
+    assert_eq!(fs::read_dir(path).expect("the folder").count(), 7);
+}

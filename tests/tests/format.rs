@@ -1,0 +1,203 @@
+//! The format of scripts at its edges, with every expected output in a list.
+//! The lists UNSETTLED hold the details that the format leaves open: a change of
+//! mind is made there and nowhere else.
+
+use edzl_tests::program;
+use edzl_tests::script::MOST_SCRIPT_BYTES;
+
+// A name, what is fed and what is printed.
+type Case = (&'static str, &'static str, &'static str);
+
+// Whole scripts. As in a table, 0 alone is well formed; the table is all that
+// stands between the lines CORES and CALLS.
+const SETTLED: [Case; 9] = [
+    (
+        "0 cores",
+        "CORES 0\nPERIOD BUDGET DEADLINE\n4 1 4\nCALLS\n",
+        "REFUSED 7\n",
+    ),
+    ("an empty table", "CORES 1\nCALLS\nSLOT\n", "REFUSED 2\n"),
+    (
+        "no calls",
+        "CORES 1\nBUDGET PERIOD DEADLINE\n1 4 4\nCALLS\n",
+        "",
+    ),
+    (
+        "a refused table",
+        "CORES 1\nPERIOD BUDGET DEADLINE\n4 5 4\nCALLS\nSLOT\n",
+        "REFUSED 5\n",
+    ),
+    (
+        "a table without tasks",
+        "CORES 1\nPERIOD BUDGET DEADLINE\nCALLS\nSLOT\n",
+        "REFUSED 6\n",
+    ),
+    (
+        "17 cores",
+        "CORES 17\nPERIOD BUDGET DEADLINE\n4 1 4\nCALLS\nSLOT\n",
+        "REFUSED 7\n",
+    ),
+    (
+        "the largest number of cores",
+        "CORES 4294967295\nPERIOD BUDGET DEADLINE\n4 1 4\nCALLS\n",
+        "REFUSED 7\n",
+    ),
+    (
+        "a refused table on 17 cores",
+        "CORES 17\nPERIOD BUDGET DEADLINE\n4 01 4\nCALLS\n",
+        "REFUSED 4\n",
+    ),
+    (
+        "a refused table before a bad line",
+        "CORES 1\nPERIOD BUDGET DEADLINE\n4 5 4\nCALLS\nSTOP\n",
+        "REFUSED 5\n",
+    ),
+];
+
+// Calls after START: the first one is line 6.
+const START: &str = "CORES 1\nPERIOD BUDGET DEADLINE\n4 1 4\n6 2 5\nCALLS\n";
+const SETTLED_CALLS: [Case; 20] = [
+    ("task 0", "RELEASE 0\nFINISH 0\n", "REFUSED 8\nREFUSED 8\n"),
+    ("a task of zeros", "JOIN 0 0 0\n", "REFUSED 5\n"),
+    (
+        "another word",
+        "SLOT\nSTOP\nSLOT\n",
+        "0 0 0 0\nBAD LINE 7\n",
+    ),
+    ("lower case", "SLOT\nslot\n", "0 0 0 0\nBAD LINE 7\n"),
+    ("a letter more", "SLOTS\n", "BAD LINE 6\n"),
+    ("a letter less", "RELEAS 1\n", "BAD LINE 6\n"),
+    ("no number", "RELEASE\n", "BAD LINE 6\n"),
+    ("two numbers", "RELEASE 1 2\n", "BAD LINE 6\n"),
+    ("a number for a slot", "SLOT 1\n", "BAD LINE 6\n"),
+    ("two values of a task", "JOIN 4 1\n", "BAD LINE 6\n"),
+    ("four values of a task", "JOIN 4 1 4 4\n", "BAD LINE 6\n"),
+    ("a leading zero", "RELEASE 01\n", "BAD LINE 6\n"),
+    ("a sign", "RELEASE +1\n", "BAD LINE 6\n"),
+    ("no digit", "FINISH x\n", "BAD LINE 6\n"),
+    ("two spaces", "RELEASE  1\n", "BAD LINE 6\n"),
+    ("a tab", "RELEASE\t1\n", "BAD LINE 6\n"),
+    ("11 digits", "FINISH 10000000000\n", "BAD LINE 6\n"),
+    ("above 32 bits", "FINISH 4294967296\n", "BAD LINE 6\n"),
+    ("the largest number", "RELEASE 4294967295\n", "REFUSED 8\n"),
+    (
+        "the largest task",
+        "JOIN 4294967295 4294967295 4294967295\n",
+        "REFUSED 5\n",
+    ),
+];
+
+// The most natural readings of what the format does not say: whole scripts.
+const UNSETTLED: [Case; 13] = [
+    ("nothing", "", "BAD LINE 1\n"),
+    ("CORES not ended", "CORES 1", "BAD LINE 1\n"),
+    ("CORES alone", "CORES 1\n", "BAD LINE 2\n"),
+    (
+        "no CORES line",
+        "PERIOD BUDGET DEADLINE\n4 1 4\nCALLS\nSLOT\n",
+        "BAD LINE 1\n",
+    ),
+    (
+        "CORES without a number",
+        "CORES\nPERIOD BUDGET DEADLINE\n4 1 4\nCALLS\n",
+        "BAD LINE 1\n",
+    ),
+    (
+        "CORES with two numbers",
+        "CORES 1 1\nPERIOD BUDGET DEADLINE\n4 1 4\nCALLS\n",
+        "BAD LINE 1\n",
+    ),
+    (
+        "CORES with a leading zero",
+        "CORES 01\nPERIOD BUDGET DEADLINE\n4 1 4\nCALLS\n",
+        "BAD LINE 1\n",
+    ),
+    (
+        "CORES above 32 bits",
+        "CORES 4294967296\nPERIOD BUDGET DEADLINE\n4 1 4\nCALLS\n",
+        "BAD LINE 1\n",
+    ),
+    (
+        "a bad CORES line and a refused table",
+        "CORES x\n4 1 4\nCALLS\n",
+        "BAD LINE 1\n",
+    ),
+    (
+        "no CALLS line",
+        "CORES 1\nPERIOD BUDGET DEADLINE\n4 1 4\n",
+        "BAD LINE 4\n",
+    ),
+    (
+        "a refused table and no CALLS line",
+        "CORES 1\n4 1 4\n",
+        "BAD LINE 3\n",
+    ),
+    (
+        "CALLS not ended",
+        "CORES 1\nPERIOD BUDGET DEADLINE\n4 1 4\nCALLS",
+        "BAD LINE 4\n",
+    ),
+    (
+        "a line like CALLS in the table",
+        "CORES 1\nPERIOD BUDGET DEADLINE\n4 1 4\nCALLS \nCALLS\n",
+        "REFUSED 4\n",
+    ),
+];
+
+// The same for calls after START.
+const UNSETTLED_CALLS: [Case; 7] = [
+    ("CALLS twice", "SLOT\nCALLS\n", "0 0 0 0\nBAD LINE 7\n"),
+    ("two zeros", "RELEASE 00\n", "BAD LINE 6\n"),
+    ("an empty line", "SLOT\n\nSLOT\n", "0 0 0 0\nBAD LINE 7\n"),
+    ("a line not ended", "SLOT\nSLOT", "0 0 0 0\nBAD LINE 7\n"),
+    ("byte 13", "SLOT\r\n", "BAD LINE 6\n"),
+    ("a trailing space", "RELEASE 1 \n", "BAD LINE 6\n"),
+    ("a leading space", " SLOT\n", "BAD LINE 6\n"),
+];
+
+// What a script of more than 65,536 bytes prints.
+const UNSETTLED_LENGTH: &str = "REFUSED 1\n";
+
+fn printed(text: &str) -> String {
+    let bytes = program::replay_output(text.as_bytes());
+    String::from_utf8_lossy(&bytes).into_owned()
+}
+
+fn check(start: &str, cases: &[Case]) {
+    for (name, fed, expected) in cases {
+        assert_eq!(printed(&format!("{start}{fed}")), *expected, "{name}");
+    }
+}
+
+#[test]
+fn settled_details() {
+    check("", &SETTLED);
+    check(START, &SETTLED_CALLS);
+}
+
+#[test]
+fn unsettled_details() {
+    check("", &UNSETTLED);
+    check(START, &UNSETTLED_CALLS);
+}
+
+// The table's text is limited to 4,096 bytes, whatever the script's length is.
+#[test]
+fn a_table_of_4096_bytes_and_one_more() {
+    let tasks = format!("PERIOD BUDGET DEADLINE\n{}", "4 1 4\n".repeat(32));
+    for (length, expected) in [(4_096, "REFUSED 3\n"), (4_097, "REFUSED 1\n")] {
+        let filling = "x".repeat(length - 1 - tasks.len());
+        let script = format!("CORES 17\n{tasks}{filling}\nCALLS\nSLOT\n");
+        assert_eq!(printed(&script), expected, "{length} bytes");
+    }
+}
+
+#[test]
+fn a_script_of_65536_bytes_and_one_more() {
+    let start = "CORES 1\nPERIOD BUDGET DEADLINE\n4000 1 4\nCALLS\n";
+    let slots = (MOST_SCRIPT_BYTES - start.len()) / "SLOT\n".len();
+    let script = format!("{start}{}", "SLOT\n".repeat(slots));
+    assert_eq!(script.len(), MOST_SCRIPT_BYTES);
+    assert!(printed(&script) == "0 0 0 0\n".repeat(slots));
+    assert!(printed(&format!("{script}\n")) == UNSETTLED_LENGTH);
+}

@@ -1,0 +1,103 @@
+//! Standard input that is closed, empty, endless, or comes in pieces: every
+//! program answers as for the bytes that it got, and ends.
+
+use std::io::Write;
+use std::path::{Path, PathBuf};
+use std::process::{Command, Stdio};
+use std::thread;
+use std::time::Duration;
+
+use edzl_tests::oracle;
+use edzl_tests::program::path;
+
+const TABLE: &[u8] = b"DEADLINE PERIOD BUDGET\n4 4 1\n5 6 2\n8 10 6\n";
+
+// The three programs, and what each prints for an empty text and for a text that is too long.
+fn programs() -> [(PathBuf, Vec<u8>, Vec<u8>); 3] {
+    [
+        (
+            path("VERDICT", "verdict"),
+            b"REFUSED 2\n".to_vec(),
+            b"REFUSED 1\n".to_vec(),
+        ),
+        (
+            path("READING", "reading"),
+            oracle::reading_output(b"").into_bytes(),
+            oracle::reading_output(&[b'y'; 5_000]).into_bytes(),
+        ),
+        (
+            path("REPLAY", "replay"),
+            b"BAD LINE 1\n".to_vec(),
+            b"REFUSED 1\n".to_vec(),
+        ),
+    ]
+}
+
+// What a program prints when the shell gives it this redirection or pipe.
+fn through_shell(program: &Path, before: &str, after: &str) -> Vec<u8> {
+    let line = format!("{before} \"{}\" {after}", program.display());
+    let output = Command::new("sh")
+        .args(["-c", &line])
+        .stdin(Stdio::null())
+        .output()
+        .expect("a shell");
+    output.stdout
+}
+
+#[test]
+fn closed_input_is_an_empty_text() {
+    for (program, empty, _) in programs() {
+        assert_eq!(through_shell(&program, "", "<&-"), empty);
+    }
+}
+
+#[test]
+fn empty_input_is_an_empty_text() {
+    for (program, empty, _) in programs() {
+        assert_eq!(through_shell(&program, "", "</dev/null"), empty);
+    }
+}
+
+#[test]
+fn endless_input_is_too_long() {
+    for (program, _, long) in programs() {
+        assert_eq!(through_shell(&program, "yes |", ""), long);
+    }
+}
+
+// The text in pieces of this many bytes, with a pause after each.
+fn in_pieces(program: &Path, text: &[u8], size: usize) -> Vec<u8> {
+    let mut child = Command::new(program)
+        .stdin(Stdio::piped())
+        .stdout(Stdio::piped())
+        .spawn()
+        .expect("the program");
+    let mut input = child.stdin.take().expect("a piped standard input");
+    for piece in text.chunks(size) {
+        input.write_all(piece).expect("an open pipe");
+        input.flush().expect("an open pipe");
+        thread::sleep(Duration::from_millis(2));
+    }
+    drop(input);
+    child.wait_with_output().expect("its output").stdout
+}
+
+#[test]
+fn pieces_make_one_text() {
+    for size in [1, 7, 23] {
+        let verdict = in_pieces(&path("VERDICT", "verdict"), TABLE, size);
+        assert_eq!(verdict, oracle::verdict_output(TABLE).into_bytes());
+        let reading = in_pieces(&path("READING", "reading"), TABLE, size);
+        assert_eq!(reading, oracle::reading_output(TABLE).into_bytes());
+    }
+    let script = [b"CORES 2\n", TABLE, b"CALLS\nRELEASE 1\nSLOT\n"].concat();
+    let replay = in_pieces(&path("REPLAY", "replay"), &script, 5);
+    assert_eq!(replay, b"DONE\n1 1 0 1\n");
+}
+
+#[test]
+fn a_long_text_in_pieces_is_too_long() {
+    let text = vec![b' '; 4_097];
+    let verdict = in_pieces(&path("VERDICT", "verdict"), &text, 512);
+    assert_eq!(verdict, b"REFUSED 1\n");
+}

@@ -1,0 +1,135 @@
+//! The simulated machine by itself, on machines made by hand: numbers 0 and 10,
+//! which no list of calls from a start can meet (document 01, "Why a call is
+//! not carried out"), and refusals that leave the machine as it was.
+
+use edzl_tests::machine::{Job, Machine};
+use edzl_tests::tasks::{Refusal, Task};
+
+const CLOSED: Job = job(false, 0, 0, 0);
+const OPEN: Job = job(true, 5, 2, 9);
+
+const fn job(open: bool, left: u32, budget: u32, gap: u32) -> Job {
+    Job {
+        open,
+        left,
+        budget,
+        gap,
+    }
+}
+
+// One task of T 9, C 2, D 5 and its job.
+fn machine(job: Job) -> Machine {
+    Machine {
+        table: vec![Task::new(9, 2, 5)],
+        cores: 1,
+        jobs: vec![job],
+    }
+}
+
+// The refusal numbers of release, finish, slot and join, all on the same machine.
+fn refusals(machine: &Machine) -> [Option<u32>; 4] {
+    let number = |refusal: Refusal| {
+        assert_eq!(refusal.place, 0);
+        refusal.number
+    };
+    [
+        machine.clone().release(2).err().map(number),
+        machine.clone().finish(2).err().map(number),
+        machine.clone().slot().err().map(number),
+        machine.clone().join(Task::new(9, 0, 5)).err().map(number),
+    ]
+}
+
+#[test]
+fn number_0_comes_before_all_others() {
+    let unsound = [
+        job(false, 0, 0, 10),
+        job(false, 1, 0, 0),
+        job(false, 0, 1, 0),
+        job(true, 0, 2, 9),
+        job(true, 6, 2, 9),
+        job(true, 5, 0, 9),
+        job(true, 5, 3, 9),
+        job(true, 5, 2, 10),
+    ];
+    for job in unsound {
+        assert_eq!(refusals(&machine(job)), [Some(0); 4], "{job:?}");
+    }
+}
+
+#[test]
+fn number_0_for_what_no_start_takes() {
+    let mut machines = vec![machine(CLOSED); 5];
+    machines[0].cores = 0;
+    machines[1].cores = 17;
+    machines[2].table[0].budget = 6;
+    machines[3].table.clear();
+    machines[3].jobs.clear();
+    machines[4].table = vec![Task::new(9, 2, 5); 33];
+    machines[4].jobs = vec![CLOSED; 33];
+    for machine in machines {
+        assert_eq!(refusals(&machine), [Some(0); 4], "{machine:?}");
+    }
+}
+
+#[test]
+fn sound_machines_at_the_limits() {
+    let sound = [
+        CLOSED,
+        job(false, 0, 0, 9),
+        OPEN,
+        job(true, 1, 1, 0),
+        job(true, 1, 2, 9),
+    ];
+    for job in sound {
+        let expected = [Some(8), Some(8), None, Some(5)];
+        assert_eq!(refusals(&machine(job)), expected, "{job:?}");
+    }
+}
+
+// An open job whose gap is 0 is sound, and number 9 comes before 10.
+#[test]
+fn number_10_only_on_a_machine_made_by_hand() {
+    let release = |job| machine(job).release(1);
+    assert_eq!(release(job(true, 3, 1, 0)), Err(Refusal::whole(10)));
+    assert_eq!(release(job(true, 3, 1, 1)), Err(Refusal::whole(9)));
+    assert_eq!(release(CLOSED), Ok(()));
+}
+
+#[test]
+fn refusals_of_a_join_in_their_order() {
+    let light = Task::new(1_000, 1, 1_000);
+    let mut full = Machine::start(&[light; 32], 16).expect("a start");
+    let before = full.clone();
+    assert_eq!(full.join(Task::new(4, 5, 4)), Err(Refusal::whole(5)));
+    assert_eq!(full.join(Task::new(4, 4, 4)), Err(Refusal::whole(12)));
+    assert_eq!(full, before);
+    let mut heavy = Machine::start(&[Task::new(5, 5, 5)], 1).expect("a start");
+    let before = heavy.clone();
+    assert_eq!(heavy.join(Task::new(5, 5, 6)), Err(Refusal::whole(5)));
+    assert_eq!(heavy.join(Task::new(5, 5, 5)), Err(Refusal::whole(13)));
+    assert_eq!(heavy, before);
+}
+
+// A start refuses what judging refuses, and takes refused tables.
+#[test]
+fn starts() {
+    let task = Task::new(5, 5, 5);
+    assert_eq!(Machine::start(&[], 0).err(), Some(Refusal::whole(6)));
+    assert_eq!(
+        Machine::start(&[task; 33], 0).err(),
+        Some(Refusal::at(3, 33))
+    );
+    assert_eq!(Machine::start(&[task], 0).err(), Some(Refusal::whole(7)));
+    let machine = Machine::start(&[task; 2], 1).expect("a start on a refused table");
+    assert_eq!(machine.jobs, [CLOSED; 2]);
+}
+
+// The budget of a job that closes in its last slot is 0: finished, not late.
+#[test]
+fn the_four_steps_of_a_slot() {
+    let mut machine = machine(job(true, 1, 1, 5));
+    let slot = machine.slot().expect("a slot");
+    assert_eq!((slot.ran, slot.finished, slot.late), (1, 1, 0));
+    assert_eq!(machine.jobs, [job(false, 0, 0, 4)]);
+}

@@ -1,0 +1,140 @@
+//! The check of demand 3 on outputs made by hand: it passes what keeps the
+//! demand and finds each way to break it.
+
+use edzl_tests::promise::{Kept, applies, check};
+use edzl_tests::script::{Call, Script};
+use edzl_tests::tasks::Task;
+use edzl_tests::texts::{ORDERS, write};
+
+use Call::{Finish, Join, Release, Slot};
+
+// Tasks of T 6, C 2, D 4 and T 6, C 1, D 3, admitted on 2 cores.
+fn script(calls: &[Call]) -> Script {
+    let script = Script {
+        cores: 2,
+        table: write(&[Task::new(6, 2, 4), Task::new(6, 1, 3)], ORDERS[0]),
+        calls: calls.to_vec(),
+    };
+    assert!(applies(&script));
+    script
+}
+
+fn kept(by_running: u64, by_a_finish: u64, undecided: u64) -> Result<Kept, String> {
+    Ok(Kept {
+        by_running,
+        by_a_finish,
+        undecided,
+    })
+}
+
+fn broken(place: usize, fault: &str) -> Result<Kept, String> {
+    Err(format!("call {place}: {fault}"))
+}
+
+#[test]
+fn jobs_closed_in_time() {
+    let once = script(&[Release(1), Slot, Slot, Slot, Slot]);
+    let at_once = "DONE\n1 0 0 1\n1 1 0 1\n0 0 0 0\n0 0 0 0\n";
+    let at_last = "DONE\n0 0 0 0\n0 0 0 0\n1 0 0 1\n1 1 0 1\n";
+    assert_eq!(check(&once, at_once), kept(1, 0, 0));
+    assert_eq!(check(&once, at_last), kept(1, 0, 0));
+}
+
+#[test]
+fn jobs_closed_by_a_finish() {
+    let calls = [Release(1), Release(2), Slot, Finish(1), Slot, Slot, Slot];
+    let printed = "DONE\nDONE\n1 0 0 1\nDONE\n2 2 0 1\n0 0 0 0\n0 0 0 0\n";
+    assert_eq!(check(&script(&calls), printed), kept(1, 1, 0));
+    // A refused finish closes nothing.
+    let refused = printed.replacen("0 1\nDONE", "0 1\nREFUSED 11", 1);
+    let expected = broken(7, "a job of task 1 is not closed");
+    assert_eq!(check(&script(&calls), &refused), expected);
+}
+
+#[test]
+fn too_few_slots_decide_nothing() {
+    let calls = [Release(1), Slot, Slot, Slot];
+    let printed = "DONE\n0 0 0 0\n0 0 0 0\n0 0 0 0\n";
+    assert_eq!(check(&script(&calls), printed), kept(0, 0, 1));
+    assert_eq!(check(&script(&[]), ""), kept(0, 0, 0));
+}
+
+#[test]
+fn a_late_job() {
+    let calls = [Release(2), Slot, Slot, Slot];
+    let printed = "DONE\n0 0 0 0\n0 0 0 0\n0 0 2 0\n";
+    assert_eq!(check(&script(&calls), printed), broken(4, "late jobs, 2"));
+}
+
+#[test]
+fn a_machine_that_runs_nobody() {
+    let calls = [Release(2), Slot, Slot, Slot];
+    let printed = "DONE\n0 0 0 0\n0 0 0 0\n0 0 0 0\n";
+    let expected = broken(4, "a job of task 2 is not closed");
+    assert_eq!(check(&script(&calls), printed), expected);
+}
+
+#[test]
+fn a_job_finished_before_its_budget() {
+    let calls = [Release(1), Slot, Slot, Slot, Slot];
+    let printed = "DONE\n1 1 0 1\n0 0 0 0\n0 0 0 0\n0 0 0 0\n";
+    let expected = broken(5, "a job of task 1 is not closed");
+    assert_eq!(check(&script(&calls), printed), expected);
+}
+
+#[test]
+fn a_job_that_runs_and_does_not_finish() {
+    let calls = [Release(1), Slot, Slot, Slot, Slot];
+    let printed = "DONE\n1 0 0 1\n1 0 0 1\n1 1 0 1\n0 0 0 0\n";
+    let expected = broken(5, "a job of task 1 is not closed");
+    assert_eq!(check(&script(&calls), printed), expected);
+}
+
+// A finish or a run before the release plays no part.
+#[test]
+fn only_calls_after_the_release_count() {
+    let calls = [Slot, Finish(2), Release(2), Slot, Slot, Slot];
+    let printed = "2 2 0 1\nDONE\nDONE\n0 0 0 0\n0 0 0 0\n0 0 0 0\n";
+    let expected = broken(6, "a job of task 2 is not closed");
+    assert_eq!(check(&script(&calls), printed), expected);
+}
+
+// A joined task's numbers come from its line; a refused join gives no task.
+#[test]
+fn joined_tasks() {
+    let calls = [
+        Join(Task::new(9, 9, 9)),
+        Join(Task::new(7, 1, 2)),
+        Release(3),
+        Slot,
+        Slot,
+    ];
+    let printed = "REFUSED 13\nDONE\nDONE\n0 0 0 0\n4 4 0 1\n";
+    assert_eq!(check(&script(&calls), printed), kept(1, 0, 0));
+    let idle = printed.replace("4 4 0 1", "0 0 0 0");
+    let expected = broken(5, "a job of task 3 is not closed");
+    assert_eq!(check(&script(&calls), &idle), expected);
+    let without = printed.replacen("DONE", "REFUSED 13", 1);
+    let expected = broken(3, "a release of no task, 3");
+    assert_eq!(check(&script(&calls), &without), expected);
+}
+
+#[test]
+fn answers_of_another_form() {
+    let calls = [Release(1), Slot];
+    assert_eq!(check(&script(&calls), "DONE\n"), broken(2, "no answer"));
+    let expected = broken(2, "no answer of a slot: DONE");
+    assert_eq!(check(&script(&calls), "DONE\nDONE\n"), expected);
+    let expected = broken(1, "no answer to such a call: 1 0 0 1");
+    assert_eq!(check(&script(&calls), "1 0 0 1\n1 0 0 1\n"), expected);
+}
+
+#[test]
+fn refused_tables_promise_nothing() {
+    let mut refused = script(&[]);
+    refused.table = write(&[Task::new(5, 5, 5); 2], ORDERS[0]);
+    refused.cores = 1;
+    assert!(!applies(&refused));
+    refused.cores = 0;
+    assert!(!applies(&refused));
+}

@@ -1,0 +1,268 @@
+//! Generated scripts: everything that the program prints against the simulated
+//! machine, and demand 3 on what it prints for admitted tables. SEED and SCRIPTS
+//! change which and how many; some 2,000 scripts meet every kind of answer.
+
+use std::collections::BTreeMap;
+use std::io::{Write, stdout};
+use std::num::NonZero;
+use std::ops::Range;
+use std::thread;
+
+use edzl_tests::machine::Slot;
+use edzl_tests::promise::Kept;
+use edzl_tests::script::{Answer, Call, Script, lines};
+use edzl_tests::tasks::MOST_TASKS;
+use edzl_tests::{program, promise, scripts, settings};
+
+const SCRIPTS: u64 = 20_000;
+
+// Every kind of answer that can happen, and no other may: number 10 is among
+// the others, because an open job's gap is never 0.
+const KINDS: [&str; 19] = [
+    "CALLS BAD LINE",
+    "FINISH DONE",
+    "FINISH REFUSED 11",
+    "FINISH REFUSED 8",
+    "JOIN DONE",
+    "JOIN REFUSED 12",
+    "JOIN REFUSED 13",
+    "JOIN REFUSED 5",
+    "RELEASE DONE",
+    "RELEASE REFUSED 8",
+    "RELEASE REFUSED 9",
+    "SLOT",
+    "TABLE REFUSED 1",
+    "TABLE REFUSED 2",
+    "TABLE REFUSED 3",
+    "TABLE REFUSED 4",
+    "TABLE REFUSED 5",
+    "TABLE REFUSED 6",
+    "TABLE REFUSED 7",
+];
+
+// What must happen among them, and nothing else may: no late job on an admitted
+// table, and no accepted join on a refused one.
+const EVENTS: [&str; 13] = [
+    "a finish before the job ran",
+    "a finish of a job that ran",
+    "a job closed by a finish in time, table admitted",
+    "a job closed by running in time, table admitted",
+    "a job open at the last call, table admitted",
+    "a late job, table refused",
+    "a slot of 16 runners",
+    "a slot of nobody",
+    "a slot that reports finished and late jobs",
+    "a table admitted",
+    "a table grown to 32 tasks",
+    "a table not admitted",
+    "an accepted join, table admitted",
+];
+
+// How often each kind and each event was met.
+#[derive(Default)]
+struct Tally {
+    kinds: BTreeMap<String, u64>,
+    events: BTreeMap<&'static str, u64>,
+}
+
+impl Tally {
+    fn event(&mut self, name: &'static str, times: u64) {
+        if times > 0 {
+            *self.events.entry(name).or_default() += times;
+        }
+    }
+
+    fn add(&mut self, other: Tally) {
+        for (kind, times) in other.kinds {
+            *self.kinds.entry(kind).or_default() += times;
+        }
+        for (name, times) in other.events {
+            self.event(name, times);
+        }
+    }
+
+    fn record(&mut self, script: &Script, answers: &[Answer]) {
+        if script.start().is_err() {
+            return self.kind(format!("TABLE {}", answers[0]));
+        }
+        let admitted = promise::applies(script);
+        let verdict = ["a table not admitted", "a table admitted"];
+        self.event(verdict[usize::from(admitted)], 1);
+        for (call, answer) in script.calls.iter().zip(answers) {
+            self.kind(kind(*call, *answer));
+        }
+        let slots = answers.iter().filter_map(|answer| match answer {
+            Answer::Ran(slot) => Some(*slot),
+            _ => None,
+        });
+        slots.for_each(|slot| self.slot(slot, admitted));
+        self.finishes(script, answers);
+        self.joins(script, answers, admitted);
+    }
+
+    fn kind(&mut self, kind: String) {
+        *self.kinds.entry(kind).or_default() += 1;
+    }
+
+    fn slot(&mut self, slot: Slot, admitted: bool) {
+        let names = ["a late job, table refused", "a late job, table admitted"];
+        let late = u64::from(slot.late.count_ones());
+        self.event(names[usize::from(admitted)], late);
+        let both = u64::from(slot.finished != 0 && slot.late != 0);
+        self.event("a slot that reports finished and late jobs", both);
+        self.event("a slot of nobody", u64::from(slot.runners == 0));
+        self.event("a slot of 16 runners", u64::from(slot.runners == 16));
+    }
+
+    // The released jobs of an admitted table.
+    fn kept(&mut self, kept: Kept) {
+        let names = [
+            "a job closed by running in time, table admitted",
+            "a job closed by a finish in time, table admitted",
+            "a job open at the last call, table admitted",
+        ];
+        self.event(names[0], kept.by_running);
+        self.event(names[1], kept.by_a_finish);
+        self.event(names[2], kept.undecided);
+    }
+
+    // Accepted finishes, of jobs that ran since their release and of others.
+    fn finishes(&mut self, script: &Script, answers: &[Answer]) {
+        let mut ran = 0;
+        for (call, answer) in script.calls.iter().zip(answers) {
+            match (call, answer) {
+                (Call::Slot, Answer::Ran(slot)) => ran |= slot.ran,
+                (Call::Release(number), Answer::Done) => ran &= !(1 << (number - 1)),
+                (Call::Finish(number), Answer::Done) => {
+                    let did_run = ran >> (number - 1) & 1;
+                    self.event("a finish of a job that ran", u64::from(did_run));
+                    self.event("a finish before the job ran", u64::from(1 - did_run));
+                }
+                _ => {}
+            }
+        }
+    }
+
+    // Accepted joins, and whether they filled the table.
+    fn joins(&mut self, script: &Script, answers: &[Answer], admitted: bool) {
+        let calls = script.calls.iter().zip(answers);
+        let joins = calls.filter(|pair| matches!(pair, (Call::Join(_), Answer::Done)));
+        let joins = joins.count();
+        let names = [
+            "an accepted join, table refused",
+            "an accepted join, table admitted",
+        ];
+        let times = u64::try_from(joins).expect("a count of 64 bits");
+        self.event(names[usize::from(admitted)], times);
+        let start = script.start().expect("a started machine").table.len();
+        let full = joins > 0 && start + joins == MOST_TASKS;
+        self.event("a table grown to 32 tasks", u64::from(full));
+    }
+
+    // Written past the test harness, which hides what a passing test prints.
+    fn report(&self, scripts: u64, seed: u64) {
+        let calls: u64 = self.kinds.values().sum();
+        let mut report = format!("\nreplay compared on {scripts} scripts, seed {seed}:\n");
+        report += &format!("  {calls:>9} answers\n");
+        for (kind, times) in &self.kinds {
+            report += &format!("  {times:>9} {kind}\n");
+        }
+        for (name, times) in &self.events {
+            report += &format!("  {times:>9} {name}\n");
+        }
+        stdout().write_all(report.as_bytes()).expect("a report");
+    }
+
+    // A comparison that never met a kind of answer says nothing about it.
+    fn require(&self) {
+        let kinds: Vec<&str> = self.kinds.keys().map(String::as_str).collect();
+        assert_eq!(
+            kinds, KINDS,
+            "the kinds of answers met, and the expected ones"
+        );
+        let events: Vec<&str> = self.events.keys().copied().collect();
+        assert_eq!(events, EVENTS, "the events met, and the expected ones");
+    }
+}
+
+fn kind(call: Call, answer: Answer) -> String {
+    let name = match call {
+        Call::Release(_) => "RELEASE",
+        Call::Finish(_) => "FINISH",
+        Call::Slot => "SLOT",
+        Call::Join(_) => "JOIN",
+        Call::Bad(_) => "CALLS",
+    };
+    match answer {
+        Answer::Ran(_) => name.to_string(),
+        Answer::BadLine(_) => format!("{name} BAD LINE"),
+        Answer::Done | Answer::Refused(_) => format!("{name} {answer}"),
+    }
+}
+
+// One script through the program: the same output, and demand 3.
+fn compare(script: &Script, tally: &mut Tally) -> Result<(), String> {
+    let answers = script.play();
+    let (expected, actual) = (lines(&answers), program::replay_output(&script.text()));
+    let actual = String::from_utf8_lossy(&actual);
+    let failure = |what: &str| {
+        let text = script.text();
+        format!(
+            "{what}\n--- script\n{}\n--- expected\n{expected}\n--- printed\n{actual}",
+            String::from_utf8_lossy(&text)
+        )
+    };
+    if promise::applies(script) {
+        let kept = promise::check(script, &actual);
+        tally.kept(kept.map_err(|fault| failure(&format!("demand 3 is broken: {fault}")))?);
+    }
+    if expected != actual {
+        return Err(failure(&first_difference(&expected, &actual)));
+    }
+    tally.record(script, &answers);
+    Ok(())
+}
+
+fn first_difference(expected: &str, actual: &str) -> String {
+    let pairs = expected.lines().zip(actual.lines());
+    let same = pairs.take_while(|(one, other)| one == other).count();
+    let line = |text: &str| text.lines().nth(same).unwrap_or("nothing").to_string();
+    let (expected, actual) = (line(expected), line(actual));
+    format!("answer {}: expected {expected}, printed {actual}", same + 1)
+}
+
+fn compare_all(seed: u64, part: Range<u64>) -> Result<Tally, String> {
+    let mut tally = Tally::default();
+    for index in part {
+        let result = compare(&scripts::script(seed, index), &mut tally);
+        result.map_err(|failure| format!("seed {seed}, script {index}: {failure}"))?;
+    }
+    Ok(tally)
+}
+
+// One part of the scripts for each core of the computer.
+fn parts(scripts: u64) -> Vec<Range<u64>> {
+    let threads = thread::available_parallelism().map_or(1, NonZero::get);
+    let threads = u64::try_from(threads).expect("a count of 64 bits");
+    let edge = |part: u64| scripts * part / threads;
+    (0..threads)
+        .map(|part| edge(part)..edge(part + 1))
+        .collect()
+}
+
+#[test]
+fn generated_scripts_through_replay() {
+    let seed = settings::number("SEED", settings::SEED);
+    let scripts = settings::number("SCRIPTS", SCRIPTS);
+    let mut tally = Tally::default();
+    thread::scope(|scope| {
+        let start = |part| scope.spawn(move || compare_all(seed, part));
+        let running: Vec<_> = parts(scripts).into_iter().map(start).collect();
+        for thread in running {
+            let part = thread.join().expect("a comparison that ends");
+            tally.add(part.unwrap_or_else(|failure| panic!("{failure}")));
+        }
+    });
+    tally.report(scripts, seed);
+    tally.require();
+}
