@@ -31,5 +31,6 @@ judgedAfter Out.Done t m =
     record { outcome = Out.Done; count = countUrgent (tasksOf t) noSlack m; admits = admitted (tasksOf t) m }
 judgedAfter (Out.Refused number place) t m = refusedValues number place
 
+-- what judging a table on m cores gives
 unfoldable pub judged : Table → (m : ℕ) → Values
 judged t m = judgedAfter (checked t m) t m

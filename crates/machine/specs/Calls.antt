@@ -36,6 +36,7 @@ startAfter Done t cores = done (record { table = t; cores = cores; jobs = replic
 startAfter (Refused number place) t cores =
     record { machine = zeroMachine; outcome = Refused number place; report = noReport }
 
+-- "Judging or starting a given table"
 unfoldable pub start : Table → (cores : ℕ) → Answer
 start t cores = startAfter (checked t cores) t cores
 

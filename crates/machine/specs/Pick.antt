@@ -31,6 +31,7 @@ unfoldable pub firstNext : Machine → (picked : List Bool) → (i n : ℕ) → 
 firstNext m picked i zero = i
 firstNext m picked i (suc n) = cond (isNext m picked i) i (firstNext m picked (suc i) n)
 
+-- the next runner: the table's count where no task waits
 unfoldable pub nextRunner : Machine → (picked : List Bool) → ℕ
 nextRunner m picked = firstNext m picked 0 (m .table .count)
 
@@ -39,9 +40,10 @@ unfoldable pub pick : Machine → (k : ℕ) → List Bool
 pick m zero = replicate maxTasks false
 pick m (suc k) = set (pick m k) (nextRunner m (pick m k)) true
 
--- "Pick the first min(m, number open) open tasks in precedence."
+-- "min(m, number open)"
 unfoldable pub runnerCount : Machine → ℕ
 runnerCount m = min (m .cores) (openCount m)
 
+-- "Pick the first min(m, number open) open tasks in precedence."
 unfoldable pub runners : Machine → List Bool
 runners m = pick m (runnerCount m)

@@ -12,7 +12,7 @@ pub record Entry : Type 0 where
   pub outcome : Outcome
   pub report : Report
 
--- "Its first call gets the fresh machine, each later call gets the machine that the call before gave back"
+-- the log of a list of calls: the first call gets the machine m, "each later call gets the machine that the call before gave back"
 unfoldable pub play : Machine → List Call → List Entry
 play m [] = []
 play m (call ∷ calls) =

@@ -32,6 +32,7 @@ isFinished j = j .«open» && eqb (j .budget) 0
 unfoldable pub isLate : Job → Bool
 isLate j = j .«open» && not (eqb (j .budget) 0) && eqb (j .left) 0
 
+-- a job after step 4
 unfoldable pub settled : Job → Job
 settled j = cond (isFinished j || isLate j) (closedJob j) j
 
@@ -40,7 +41,7 @@ unfoldable pub replaced : {A : Type 0} → (n : ℕ) → (ℕ → A) → List A 
 replaced zero f l = l
 replaced (suc n) f l = set (replaced n f l) n (f n)
 
--- "names no task and gives 0 runners": what every call but an accepted slot reports
+-- "a refused slot names no task and gives 0 runners"; every call that is no slot reports the same
 unfoldable pub noReport : Report
 noReport =
     record {
@@ -60,6 +61,7 @@ slotReport m =
       runners = runnerCount m;
     }
 
+-- the machine after a slot
 unfoldable pub afterSlot : Machine → Machine
 afterSlot m =
     record {

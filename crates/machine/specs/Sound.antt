@@ -28,6 +28,7 @@ unfoldable pub jobsSound : Machine → (n : ℕ) → Bool
 jobsSound m zero = true
 jobsSound m (suc n) = jobsSound m n && jobSound (taskAt m n) (jobAt m n)
 
+-- the call was carried out
 unfoldable pub isDone : Outcome → Bool
 isDone Done = true
 isDone (Refused number place) = false
