@@ -1,0 +1,175 @@
+/*
+ * The program slots in plain C, with the machine kept in place: plays many
+ * slots of the table on standard input and prints a checksum. Built with
+ * CHECKED as 1, each call first tests that the machine is sound, as the proved
+ * one does; with 0 it does not.
+ */
+#include <inttypes.h>
+#include <stdbool.h>
+#include <stdio.h>
+
+#include "table.h"
+
+enum { SLOTS = 1000000 };
+
+#define MODULUS UINT64_C(4294967291)
+
+struct job {
+    bool open;
+    uint32_t left;
+    uint32_t budget;
+    uint32_t gap;
+};
+
+struct machine {
+    struct table table;
+    uint32_t cores;
+    struct job jobs[MAX_TASKS];
+};
+
+struct report {
+    bool ran[MAX_TASKS];
+    bool finished[MAX_TASKS];
+    bool late[MAX_TASKS];
+    uint32_t runners;
+};
+
+static bool job_sound(const struct job *job, const struct task *task)
+{
+    if (job->gap > task->period)
+        return false;
+    if (!job->open)
+        return job->left == 0 && job->budget == 0;
+    return 1 <= job->left && job->left <= task->deadline && 1 <= job->budget &&
+           job->budget <= task->budget;
+}
+
+static bool sound(const struct machine *machine)
+{
+    size_t count = machine->table.count;
+    if (count < 1 || count > MAX_TASKS || machine->cores < 1 || machine->cores > MAX_CORES)
+        return false;
+    for (size_t i = 0; i < count; i++) {
+        const struct task *task = &machine->table.tasks[i];
+        if (!task_in_range(task) || !job_sound(&machine->jobs[i], task))
+            return false;
+    }
+    return true;
+}
+
+/* Opens a job of the task with this number, from 1, if it is allowed. */
+static bool release(struct machine *machine, size_t number)
+{
+    if (CHECKED && !sound(machine))
+        return false;
+    if (number < 1 || number > machine->table.count)
+        return false;
+    struct job *job = &machine->jobs[number - 1];
+    if (job->gap > 0 || job->open)
+        return false;
+    const struct task *task = &machine->table.tasks[number - 1];
+    *job = (struct job){true, task->deadline, task->budget, task->period};
+    return true;
+}
+
+/* Whether an open job precedes another that has a lower number. */
+static bool precedes(const struct job *x, const struct job *y)
+{
+    bool urgent = x->left <= x->budget;
+    if (urgent != (y->left <= y->budget))
+        return urgent;
+    return x->left < y->left;
+}
+
+/* The open task, not yet picked, that goes before all others. */
+static size_t next_runner(const struct machine *machine, const bool *picked)
+{
+    size_t count = machine->table.count;
+    size_t best = count;
+    for (size_t i = 0; i < count; i++) {
+        if (!machine->jobs[i].open || picked[i])
+            continue;
+        if (best == count || precedes(&machine->jobs[i], &machine->jobs[best]))
+            best = i;
+    }
+    return best;
+}
+
+/* Marks the tasks that run, and gives their number. */
+static uint32_t pick(const struct machine *machine, bool *ran)
+{
+    uint32_t open = 0;
+    for (size_t i = 0; i < machine->table.count; i++)
+        open += machine->jobs[i].open;
+    uint32_t wanted = open < machine->cores ? open : machine->cores;
+    for (uint32_t found = 0; found < wanted; found++)
+        ran[next_runner(machine, ran)] = true;
+    return wanted;
+}
+
+/* Steps 2 to 4 of a slot for one task. */
+static void pass(struct job *job, bool ran, bool *finished, bool *late)
+{
+    job->gap -= job->gap > 0;
+    if (!job->open)
+        return;
+    job->budget -= ran;
+    job->left -= 1;
+    *finished = job->budget == 0;
+    *late = job->budget != 0 && job->left == 0;
+    if (*finished || *late) {
+        job->open = false;
+        job->left = 0;
+        job->budget = 0;
+    }
+}
+
+static void slot(struct machine *machine, struct report *report)
+{
+    *report = (struct report){0};
+    if (CHECKED && !sound(machine))
+        return;
+    report->runners = pick(machine, report->ran);
+    for (size_t i = 0; i < machine->table.count; i++)
+        pass(&machine->jobs[i], report->ran[i], &report->finished[i], &report->late[i]);
+}
+
+static uint64_t mask(const bool *named)
+{
+    uint64_t sum = 0;
+    for (size_t i = MAX_TASKS; i-- > 0;)
+        sum = named[i] + 2 * sum;
+    return sum;
+}
+
+static uint64_t folded(uint64_t sum, uint64_t number)
+{
+    return (sum * 31 + number % MODULUS) % MODULUS;
+}
+
+static uint64_t play(struct machine *machine)
+{
+    struct report report;
+    uint64_t sum = 0;
+    for (uint32_t number = 0; number < SLOTS; number++) {
+        for (size_t i = 0; i < machine->table.count; i++)
+            if (machine->jobs[i].gap == 0 && !machine->jobs[i].open)
+                release(machine, i + 1);
+        slot(machine, &report);
+        sum =
+            folded(folded(folded(sum, mask(report.ran)), mask(report.finished)), mask(report.late));
+    }
+    return sum;
+}
+
+int main(void)
+{
+    uint8_t text[MAX_TEXT_LENGTH + 1];
+    size_t len = fread(text, 1, sizeof text, stdin);
+    struct machine machine = {0};
+    if (table_read(text, len, &machine.table) != NONE)
+        return 1;
+    machine.cores = (uint32_t)machine.table.count / 2;
+    printf("%" PRIu64 "\n", play(&machine));
+    return 0;
+}

@@ -1,0 +1,87 @@
+// Plays many slots of the table on standard input, on half as many cores as tasks, and prints a checksum: for benchmarks.
+use libc::STDIN_FILENO;
+use libc::STDOUT_FILENO;
+use machine::answer::Report;
+use machine::answer::mask;
+use machine::job::Machine;
+use tasks::limits::MAX_TASKS;
+ghost use Prim.Native.Nat.{_≤_};
+
+// One byte more than a text may have, so that a longer one is seen to be too long.
+const MOST: usize = 4_097;
+
+// The slots that are played.
+const SLOTS: u64 = 1_000_000;
+
+// What the checksum is reduced by: the largest prime of 32 bits.
+const MODULUS: u64 = 4_294_967_291;
+
+// The checksum with one more number.
+fn folded(sum: u64, number: u64) -> u64 {
+    (sum % MODULUS * 31 + number % MODULUS) % MODULUS
+}
+
+// The checksum with one more report.
+fn with_report(sum: u64, report: Report) -> u64 {
+    let ran = report.ran;
+    let finished = report.finished;
+    let late = report.late;
+    folded(folded(folded(sum, mask(ran)), mask(finished)), mask(late))
+}
+
+// The machine after a release of each of its first `count` tasks whose next release is allowed and whose job is closed.
+fn with_releases(machine: Machine, count: usize) -> Machine
+    requires { ⌜ count ≤ 32 ⌝ }
+{
+    let mut after = machine;
+    let mut i: usize = 0;
+    while i < count {
+        let job = after.jobs[i];
+        if job.gap == 0 {
+            if !job.open {
+                let answer = after.release(i as u32 + 1);
+                after = answer.machine;
+            }
+        }
+        i += 1;
+    }
+    after
+}
+
+// The checksum of the reports of so many slots of a machine of `count` tasks, each slot after the releases that are allowed.
+fn play(machine: Machine, count: usize, slots: u64) -> u64
+    requires { ⌜ count ≤ 32 ⌝ }
+{
+    let mut after = machine;
+    let mut sum: u64 = 0;
+    let mut number: u64 = 0;
+    while number < slots {
+        number += 1;
+        let released = with_releases(after, count);
+        let answer = released.slot();
+        let report = answer.report;
+        sum = with_report(sum, report);
+        after = answer.machine;
+    }
+    sum
+}
+
+// The checksum of the table of a text: 0 where it is refused.
+fn played(text: &[u8]) -> u64 {
+    let answer = reader::read(text);
+    let table = answer.table;
+    let count = table.count;
+    if MAX_TASKS < count {
+        return 0;
+    }
+    let started = Machine::start(table, count as u32 / 2);
+    let machine = started.machine;
+    play(machine, count, SLOTS)
+}
+
+fn main() {
+    let mut space = [0u8; MOST];
+    let n = io::read_full(STDIN_FILENO, &mut space);
+    io::print_decimal(STDOUT_FILENO, played(&space[..n]));
+    io::write_all(STDOUT_FILENO, b"\n");
+}
