@@ -7,14 +7,6 @@ pub struct Case {
     pub cores: u32,
 }
 
-const ORDERS: [[usize; 3]; 6] = [
-    [0, 1, 2],
-    [0, 2, 1],
-    [1, 0, 2],
-    [1, 2, 0],
-    [2, 0, 1],
-    [2, 1, 0],
-];
 const NAMES: [&str; 3] = ["PERIOD", "BUDGET", "DEADLINE"];
 
 /// A small deterministic source of random numbers (splitmix64).
@@ -27,6 +19,13 @@ impl Random {
         let word = (word ^ (word >> 27)).wrapping_mul(0x94d0_49bb_1331_11eb);
         low + ((word ^ (word >> 31)) % u64::from(high - low + 1)) as u32
     }
+}
+
+// One of the six orders of the columns.
+fn column_order(random: &mut Random) -> [usize; 3] {
+    let first = random.between(0, 2) as usize;
+    let step = random.between(1, 2) as usize;
+    [first, (first + step) % 3, (first + 2 * step) % 3]
 }
 
 fn text_of(tasks: &[Task], order: [usize; 3]) -> Vec<u8> {
@@ -77,7 +76,7 @@ pub fn near_boundary(tasks: usize, tables: usize) -> Vec<Case> {
     let mut cases = Vec::new();
     while cases.len() < 2 * tables {
         let frames = frames(&mut random, tasks);
-        let order = ORDERS[random.between(0, 5) as usize];
+        let order = column_order(&mut random);
         let verdict = |share: &u32| admitted(&with_shares(&frames, *share), cores);
         let Some(share) = (2..=1000).find(|share| verdict(&(share - 1)) && !verdict(share)) else {
             continue;
