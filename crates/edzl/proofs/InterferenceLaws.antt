@@ -1,9 +1,9 @@
 -- The laws of interference. As a function of the window, for a task with 1 ≤ C ≤ T, others cite: `monotone`, `grows`, `period-more`,
 -- `periods-more`, `first-period`, `at-least`; they come from `staircase`, the value by the whole periods and the rest. Of the other two
--- numbers: `budget-monotone`, `period-antitone`. For code that computes it: `by-rest`, `no-period`.
+-- numbers: `budget-monotone`, `period-antitone`.
 use Prim.Native.Nat.{ℕ, zero, suc, _+_, _*_, _-_, _/_, _%_, _≤_, _<_, min}
 use mathlib.Core.Path.{_≡_, sym}
-use native.Mathlib.Nat.{le-refl, mul-le-mul-left, add-zero, add-suc, div-add-mod', div-eq-of-lt-le, div-zero, mod-lt, mod-eq-sub-div-mul}
+use native.Mathlib.Nat.{le-refl, mul-le-mul-left, add-zero, add-suc, div-add-mod', div-eq-of-lt-le, mod-lt}
 use native.Mathlib.Omega.{arith}
 use Rattle.edzl.specs.Window.{interference}
 use Rattle.edzl.proofs.Cases.{by-order}
@@ -74,16 +74,6 @@ module _ (T C : ℕ) (T-some : 1 ≤ T) (C-fits : C ≤ T) where
   periods-more (suc q) L =
       let e : L + suc q * T ≡ (L + q * T) + T = omega arith in
       rw e (omega (arith, periods-more q L, period-more (L + q * T)))
-
--- The same value by the remainder, which code computes.
-pub by-rest : (T C L : ℕ) → interference T C L ≡ L / T * C + min C (L % T)
-unfolding interference
-by-rest T C L = rw (mod-eq-sub-div-mul L T)
-
--- A period of 0 divides to 0.
-pub no-period : (C L : ℕ) → interference 0 C L ≡ min C L
-unfolding interference
-no-period C L = rw (div-zero L) (omega arith)
 
 -- A larger budget takes no less.
 pub budget-monotone : (T B C L : ℕ) → B ≤ C → interference T B L ≤ interference T C L

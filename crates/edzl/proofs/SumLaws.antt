@@ -1,6 +1,6 @@
 -- The laws of sums over the indexes below n, of sums that leave one index out, and of bits.
 use Prim.Native.Nat.{ℕ, zero, suc, _+_, _*_, _-_, _≤_, _<_}
-use mathlib.Core.Path.{_≡_, refl, ap, ap₂, subst}
+use mathlib.Core.Path.{_≡_, refl, sym, ap, ap₂, subst}
 use mathlib.Core.Bool.{Bool, true, false}
 use native.Mathlib.Nat.{le-refl, add-zero, add-suc, not-suc-le-zero}
 use native.Mathlib.Omega.{arith}
@@ -87,6 +87,17 @@ module _ (f g : ℕ → ℕ) (k n : ℕ) where
       by-equal i k
       (λ e. omega (arith, others-at f e, others-at g e))
       (λ ne. omega (arith, others-off f ne, others-off g ne, h i l ne))
+
+-- A sum is the one that leaves k out, and what stands at k.
+pub sum-others : (f : ℕ → ℕ) (k n : ℕ) → k < n → sumTo n f ≡ sumTo n (others k f) + f k
+unfolding sumTo
+sum-others f k zero l = absurd (not-suc-le-zero l)
+sum-others f k (suc n) l =
+    by-equal k n
+    (λ e.
+    let before : sumTo n (others k f) ≡ sumTo n f = sum-same (others k f) f n (λ i h. others-off f (λ same. omega arith)) in
+    omega (arith, before, others-at f (sym e), ap f e))
+    (λ ne. omega (arith, sum-others f k n (omega arith), others-off f {i = n} {k = k} (λ same. ne (sym same))))
 
 -- `sum-gain` where k is left out and gains nothing.
 pub others-gain : (f g h : ℕ → ℕ) (k n m : ℕ) →

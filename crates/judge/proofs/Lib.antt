@@ -1,2 +1,5 @@
-pub mod Sums
 pub mod Outcome
+pub mod Inverse
+pub mod Turns
+pub mod OwnPart
+pub mod Listed

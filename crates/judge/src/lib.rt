@@ -1,15 +1,14 @@
 // The admission test of a table: document 01, "The window test".
-use edzl::interference;
-use edzl::least;
+use crate::urgent::count_urgent;
 use tasks::check::check;
-use tasks::limits::MAX_TASKS;
 use tasks::outcome::Outcome;
 use tasks::table::Table;
-use tasks::task::Task;
-ghost use Prim.Native.Nat.{_-_, _≤_, _<_, min};
+
+mod numbers;
+mod sums;
+mod urgent;
+
 ghost use mathlib.Core.Path.{_≡_};
-ghost use Rattle.edzl.specs.Window.{windowSum, mayTurnUrgent, countUrgent, noSlack, interference as interferenceOf};
-ghost use Rattle.judge.specs.TaskSet.{firstTasks};
 ghost use Rattle.judge.specs.Judge.{valuesOf, judged};
 
 // COUNT and whether the table is admitted, or the refusal's number and place.
@@ -44,72 +43,6 @@ impl Verdict {
             } => false,
         }
     }
-}
-
-// The slots that a job of the task can lose: its spare.
-fn spare_of(task: Task) -> u32
-    ensures { λ r. ⌜ r ≡ task .deadline - task .budget ⌝ }
-{
-    if task.deadline < task.budget {
-        return 0;
-    }
-    task.deadline - task.budget
-}
-
-// What one task counts for in the sum of another with this deadline and this spare.
-fn part_of(task: Task, deadline: u32, spare: u32) -> u64
-    ensures { λ r. ⌜ r ≡ min (interferenceOf (task .period) (task .budget) deadline) spare ⌝ }
-{
-    least(
-        interference(task.period, task.budget, deadline),
-        spare as u64,
-    )
-}
-
-// The sum of task k over the others of the first `count` tasks.
-fn window_sum(tasks: [Task; MAX_TASKS], count: usize, k: usize) -> u64
-    requires { ⌜ (count ≤ 32) × (k < 32) ⌝ }
-    ensures { λ r. ⌜ r ≡ windowSum (firstTasks tasks count) noSlack k ⌝ }
-{
-    let own = tasks[k];
-    let spare = spare_of(own);
-    let mut sum: u64 = 0;
-    let mut i: usize = 0;
-    while i < count {
-        if i != k {
-            let task = tasks[i];
-            sum += part_of(task, own.deadline, spare);
-        }
-        i += 1;
-    }
-    sum
-}
-
-// Whether task k may turn urgent on this many cores.
-fn may_turn_urgent(tasks: [Task; MAX_TASKS], count: usize, k: usize, cores: u32) -> bool
-    requires { ⌜ (count ≤ 32) × (k < 32) × (cores ≤ 16) ⌝ }
-    ensures { λ r. ⌜ r ≡ mayTurnUrgent (firstTasks tasks count) noSlack cores k ⌝ }
-{
-    let own = tasks[k];
-    let spare = spare_of(own);
-    let sum = window_sum(tasks, count, k);
-    cores as u64 * spare as u64 <= sum
-}
-
-// How many of the first `count` tasks may turn urgent.
-fn count_urgent(tasks: [Task; MAX_TASKS], count: usize, cores: u32) -> u32
-    requires { ⌜ (count ≤ 32) × (cores ≤ 16) ⌝ }
-    ensures { λ r. ⌜ r ≡ countUrgent (firstTasks tasks count) noSlack cores ⌝ }
-{
-    let mut urgent: u32 = 0;
-    let mut k: usize = 0;
-    while k < count {
-        if may_turn_urgent(tasks, count, k, cores) {
-            urgent += 1;
-        }
-        k += 1;
-    }
-    urgent
 }
 
 // The verdict on a table and a number of cores.

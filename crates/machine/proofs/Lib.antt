@@ -5,6 +5,7 @@ pub mod Order
 pub mod Next
 pub mod Search
 pub mod PickLaws
+pub mod RankLaws
 pub mod SlotStep
 pub mod CallCases
 pub mod TaskNumbers

@@ -1,11 +1,11 @@
--- The entries of the lists that a slot makes. Others cite: `replicate-entry`; and of `replaced` `length-replaced`, `replaced-at`, `replaced-past`
--- and `replaced-short`.
+-- The entries of the lists that a slot makes. Others cite: `replicate-entry`; and of `replaced` `length-replaced`, `replaced-at`, `replaced-past`,
+-- `replaced-short` and `replaced-set`.
 use Prim.Native.Nat.{ℕ, zero, suc, _≤_, _<_}
-use mathlib.Core.Path.{_≡_, refl, _∙_}
+use mathlib.Core.Path.{_≡_, refl, sym, _∙_}
 use mathlib.Core.List.{List}
 use native.Mathlib.Omega.{arith}
-use lib.ListN.{getD, length, replicate, length-set, length-replicate, getD-replicate, List·getD-eq-default}
-use lib.Seq.{getD-set-same, getD-set-other}
+use lib.ListN.{getD, set, length, replicate, length-set, length-replicate, getD-replicate, List·getD-eq-default}
+use lib.Seq.{getD-set-same, getD-set-other, ext-getD}
 use Rattle.edzl.proofs.Cases.{by-order, by-equal}
 use Rattle.machine.specs.Slot.{replaced}
 
@@ -38,3 +38,18 @@ module _ {A : Type 0} (f : ℕ → A) (l : List A) where
 
     pub replaced-short : (n i : ℕ) → length l ≤ i → getD (replaced n f l) i d ≡ d
     replaced-short n i short = List·getD-eq-default (replaced n f l) d (omega (arith, length-replaced n))
+
+-- One of the replaced entries set to another value: the list replaced by the entries of g, which is that value there and else f.
+module _ {A : Type 0} (f g : ℕ → A) (l : List A) (n k : ℕ) (others : (i : ℕ) → (i ≡ k → ⊥) → g i ≡ f i) where
+  pub replaced-set : (d : A) → k < n → n ≤ length l → set (replaced n f l) k (g k) ≡ replaced n g l
+  replaced-set d h fits =
+      ext-getD d (set (replaced n f l) k (g k)) (replaced n g l)
+      (length-set (replaced n f l) k (g k) ∙ length-replaced f l n ∙ sym (length-replaced g l n))
+      (λ i inside.
+      by-equal i k
+      (λ e. rw e (getD-set-same (replaced n f l) k (g k) d (omega (arith, length-replaced f l n)) ∙ sym (replaced-at g l d n k h (omega arith))))
+      (λ ne.
+      getD-set-other (replaced n f l) k i (g k) d ne
+      ∙ by-order n i
+      (λ past. replaced-past f l d n i past ∙ sym (replaced-past g l d n i past))
+      (λ below. replaced-at f l d n i below (omega arith) ∙ sym (replaced-at g l d n i below (omega arith) ∙ others i ne))))

@@ -1,16 +1,17 @@
 -- The next runner. Others cite: `Behind`, `Next`, and `next-runner`, that where a task waits `nextRunner` is a waiting task that no other precedes;
--- and `NoneWaits`, with what one task more does to it and to `Next`: `none-more`, `first-waiting`, `stays` and `takes-over`.
+-- `next-only`, that no other task is; `NoneWaits` with `none-next`, that where no task waits `nextRunner` is the table's count; and `up`.
 use Prim.Native.Nat.{ℕ, zero, suc, _+_, _≤_, _<_}
-use mathlib.Core.Path.{_≡_, refl, sym, subst}
+use mathlib.Core.Path.{_≡_, refl, sym, _∙_, subst}
 use mathlib.Core.Bool.{Bool, true, false, _&&_, and-eq-true-iff}
 use mathlib.Core.List.{List}
+use native.Mathlib.Nat.{add-zero}
 use native.Mathlib.Omega.{arith}
 use borrow.Author.Tests.{not-true}
 use Rattle.edzl.proofs.Cases.{by-equal, by-test, not-both}
 use Rattle.machine.specs.Precedence.{precedes}
 use Rattle.machine.specs.Pick.{waiting, unpreceded, isNext, firstNext, nextRunner}
 use Rattle.machine.specs.declared.job.Machine.{Machine}
-use Rattle.machine.proofs.Order.{precedes-not-self, precedes-trans}
+use Rattle.machine.proofs.Order.{precedes-not-self, precedes-trans, precedes-total}
 
 -- Where task j waits, it does not precede task i.
 abbrev pub Behind : Machine → (picked : List Bool) → (i j : ℕ) → Type 0
@@ -32,17 +33,17 @@ data Scan (m : Machine) (picked : List Bool) (n : ℕ) : Type 0 where
   one-is-next : (i : ℕ) → Next m picked n i → Scan m picked n
 
 -- What holds below n and at n holds below suc n.
-up : (P : ℕ → Type 0) (n : ℕ) → ((j : ℕ) → j < n → P j) → P n → (j : ℕ) → j < suc n → P j
+pub up : (P : ℕ → Type 0) (n : ℕ) → ((j : ℕ) → j < n → P j) → P n → (j : ℕ) → j < suc n → P j
 up P n below last j h = by-equal j n (λ e. subst P (sym e) last) (λ ne. below j (omega arith))
 
 module _ (m : Machine) (picked : List Bool) where
   -- Beside a task that does not wait, still none does.
-  pub none-more : (n : ℕ) → NoneWaits m picked n → waiting m picked n ≡ false → NoneWaits m picked (suc n)
+  none-more : (n : ℕ) → NoneWaits m picked n → waiting m picked n ≡ false → NoneWaits m picked (suc n)
   none-more n none idle =
       up (λ j. waiting m picked j ≡ true → ⊥) n none (λ w. not-both (waiting m picked n) w idle)
 
   -- Task i stays next beside one task more that is behind it.
-  pub stays : (n i : ℕ) → Next m picked n i → Behind m picked i n → Next m picked (suc n) i
+  stays : (n i : ℕ) → Next m picked n i → Behind m picked i n → Next m picked (suc n) i
   stays n i next last =
       record {
         inside = omega (arith, next .inside);
@@ -60,7 +61,7 @@ module _ (m : Machine) (picked : List Bool) where
       }
 
   -- So it is where none before it waits.
-  pub first-waiting : (n : ℕ) → NoneWaits m picked n → waiting m picked n ≡ true → Next m picked (suc n) n
+  first-waiting : (n : ℕ) → NoneWaits m picked n → waiting m picked n ≡ true → Next m picked (suc n) n
   first-waiting n none waits = last-next n waits (λ j h w. absurd (none j h w))
 
   -- What is behind task i is behind a task that precedes it.
@@ -71,7 +72,7 @@ module _ (m : Machine) (picked : List Bool) where
       (λ p. p)
 
   -- So the last task is next where it precedes the one that was.
-  pub takes-over : (n i : ℕ) → Next m picked n i → waiting m picked n ≡ true → precedes m n i ≡ true → Next m picked (suc n) n
+  takes-over : (n i : ℕ) → Next m picked n i → waiting m picked n ≡ true → precedes m n i ≡ true → Next m picked (suc n) n
   takes-over n i next waits sooner =
       last-next n waits (λ j h. behind-both n i sooner j (next .first j h))
 
@@ -139,3 +140,27 @@ module _ (m : Machine) (picked : List Bool) where
             waits = parts .0;
             first = test-says (nextRunner m picked) (m .table .count) (parts .1);
           }
+
+  -- Only one task is next.
+  pub next-only : (i : ℕ) → Next m picked (m .table .count) i → nextRunner m picked ≡ i
+  next-only i next =
+      let runner = next-runner i (next .inside) (next .waits) in
+      by-equal (nextRunner m picked) i
+      (λ e. e)
+      (λ other.
+      not-both (precedes m i (nextRunner m picked))
+      (precedes-total m (nextRunner m picked) i other (next .first _ (runner .inside) (runner .waits)))
+      (runner .first i (next .inside) (next .waits)))
+
+  -- Where none waits, the search passes them all.
+  passes-all : (i n : ℕ) → NoneWaits m picked (i + n) → firstNext m picked i n ≡ i + n
+  unfolding firstNext isNext
+  passes-all i zero none = sym (add-zero i)
+  passes-all i (suc n) none =
+      by-test (waiting m picked i)
+      (λ w. absurd (none i (omega arith) w))
+      (λ idle. rw idle (passes-all (suc i) n (λ j h. none j (omega arith)) ∙ omega arith))
+
+  pub none-next : NoneWaits m picked (m .table .count) → nextRunner m picked ≡ m .table .count
+  unfolding nextRunner
+  none-next none = passes-all 0 (m .table .count) (λ j h. none j (omega arith)) ∙ omega arith

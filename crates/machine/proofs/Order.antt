@@ -1,5 +1,5 @@
--- Precedence is a strict order. Others cite: `precedes-not-self`, `precedes-trans`; `precedes-total`, that of two tasks one precedes the other; and
--- `beats-precedes`, that an open task which beats another in the theory's sense precedes it.
+-- Precedence is a strict order. Others cite: `Before` and `holds`, why one task precedes another; `precedes-not-self`, `precedes-trans`; `precedes-total`,
+-- that of two tasks one precedes the other; and `beats-precedes`, that an open task which beats another in the theory's sense precedes it.
 use Prim.Native.Nat.{ℕ, _<_}
 use mathlib.Core.Path.{_≡_, refl, sym, _∙_}
 use mathlib.Core.Bool.{Bool, true, false, _&&_, _||_, or-true}
@@ -15,7 +15,7 @@ use Rattle.machine.specs.declared.job.Machine.{Machine}
 use Rattle.machine.proofs.State.{jobsOf}
 
 -- Why x precedes y.
-data Before (m : Machine) (x y : ℕ) : Type 0 where
+pub data Before (m : Machine) (x y : ℕ) : Type 0 where
   by-urgency : isUrgent (jobAt m x) ≡ true → isUrgent (jobAt m y) ≡ false → Before m x y
   by-left : isUrgent (jobAt m x) ≡ isUrgent (jobAt m y) → jobAt m x .left < jobAt m y .left → Before m x y
   by-number : isUrgent (jobAt m x) ≡ isUrgent (jobAt m y) → jobAt m x .left ≡ jobAt m y .left → x < y → Before m x y
@@ -57,7 +57,7 @@ module _ (m : Machine) where
       go true = refl
       go false = refl
 
-  holds : {x y : ℕ} → Before m x y → precedes m x y ≡ true
+  pub holds : {x y : ℕ} → Before m x y → precedes m x y ≡ true
   unfolding precedes jobPrecedes byUrgency leftFirst
   holds {x} {y} (by-urgency p q) = rw (p, q)
   holds {x} {y} (by-left alike l) = alike-precedes x y alike (rw (lt-ltb _ _ l))

@@ -1,5 +1,6 @@
 -- The pick is a legal choice of runners. Others cite: `runners-legal`; `runner-in` and `runner-open`, that a runner is an open task of the table;
--- `runners-number`, how many there are; and `next-in`, that while fewer are picked than are open the next runner is a task of the table.
+-- `runners-number`, how many there are; `waits-open`, that a waiting task is open; `length-pick`; and `next-in`, that while fewer are picked than are
+-- open the next runner is a task of the table.
 use Prim.Native.Nat.{ℕ, zero, suc, _≤_, _<_}
 use mathlib.Core.Path.{_≡_, sym, _∙_, subst}
 use mathlib.Core.Bool.{Bool, true, false, and-eq-true-iff}
@@ -40,7 +41,7 @@ isPicked m k i = getD (pick m k) i false
 
 -- A waiting task is open and not picked.
 module _ (m : Machine) (picked : List Bool) (i : ℕ) where
-  waits-open : waiting m picked i ≡ true → jobAt m i .«open» ≡ true
+  pub waits-open : waiting m picked i ≡ true → jobAt m i .«open» ≡ true
   unfolding waiting
   waits-open w = and-eq-true-iff (jobAt m i .«open») _ .0 w .0
 
@@ -78,7 +79,7 @@ record Picked (m : Machine) (k : ℕ) : Type 0 where
   first : (y : ℕ) → isPicked m k y ≡ true → (x : ℕ) → x < m .table .count → Behind m (pick m k) y x
 
 module _ (m : Machine) where
-  length-pick : (k : ℕ) → length (pick m k) ≡ maxTasks
+  pub length-pick : (k : ℕ) → length (pick m k) ≡ maxTasks
   unfolding pick
   length-pick zero = length-replicate maxTasks false
   length-pick (suc k) = length-set (pick m k) _ true ∙ length-pick k

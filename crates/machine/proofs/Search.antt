@@ -1,68 +1,66 @@
--- The search for the next runner, turn by turn. Others cite: `Reached`, with its turns, `reached-start`, `reached-idle`, `reached-waiting` and
--- `reached-rival`; and `reached-end` and `next-only`, that the search ends at `nextRunner`.
-use Prim.Native.Nat.{ℕ, zero, suc, _+_, _<_}
-use mathlib.Core.Path.{_≡_, sym, _∙_}
-use mathlib.Core.Bool.{Bool, true, false}
+-- The search for the smallest of the ranks, turn by turn. Others cite: `Least` and `NoneRanked`, how it ends; and `Reached`, with the turns
+-- `reached-start`, `reached-idle`, `reached-waiting`, `least-stays`, `reached-rival` and `reached-end`.
+use Prim.Native.Nat.{ℕ, suc, _≤_, _<_}
 use mathlib.Core.List.{List}
-use native.Mathlib.Nat.{add-zero}
 use native.Mathlib.Omega.{arith}
-use Rattle.edzl.proofs.Cases.{by-equal, by-test, not-both}
-use Rattle.machine.specs.Precedence.{precedes}
-use Rattle.machine.specs.Pick.{waiting, isNext, firstNext, nextRunner}
-use Rattle.machine.specs.declared.job.Machine.{Machine}
-use Rattle.machine.proofs.Order.{precedes-total}
-use Rattle.machine.proofs.Next.{NoneWaits, Next, none-more, first-waiting, takes-over, next-runner}
+use lib.ListN.{getD, length}
+use Rattle.machine.specs.Rank.{never}
+use Rattle.machine.proofs.Next.{up}
 
--- Where none waits, `firstNext` passes them all.
-passes-all : (m : Machine) (picked : List Bool) (i n : ℕ) → NoneWaits m picked (i + n) → firstNext m picked i n ≡ i + n
-unfolding firstNext isNext
-passes-all m picked i zero none = sym (add-zero i)
-passes-all m picked i (suc n) none =
-    by-test (waiting m picked i)
-    (λ w. absurd (none i (omega arith) w))
-    (λ idle. rw idle (passes-all m picked (suc i) n (λ j h. none j (omega arith)) ∙ omega arith))
+-- None of the first n ranks is that of a waiting task.
+abbrev pub NoneRanked : List ℕ → (n : ℕ) → Type 0
+NoneRanked l n = (j : ℕ) → j < n → never ≤ getD l j 0
 
--- A search that has come to task i: none before it waits, or it is the next of those up to it.
-pub data Reached (m : Machine) (picked : List Bool) (i : ℕ) : Type 0 where
-  none-waits : NoneWaits m picked i → Reached m picked i
-  is-next : i < m .table .count → Next m picked (suc i) i → Reached m picked i
+-- Rank i is that of a waiting task, the smallest of the first n, and the first of its size.
+pub record Least (l : List ℕ) (n i : ℕ) : Type 0 where
+  pub inside : i < n
+  pub waits : getD l i 0 < never
+  pub least : (j : ℕ) → j < n → getD l i 0 ≤ getD l j 0
+  pub first : (j : ℕ) → j < i → getD l i 0 < getD l j 0
 
-module _ {m : Machine} {picked : List Bool} where
-  pub reached-start : Reached m picked 0
-  reached-start = none-waits (λ j h w. omega arith)
+-- A search that has come to index i: nothing before it waits, or its rank is smaller than all before it.
+pub data Reached (l : List ℕ) (i : ℕ) : Type 0 where
+  none-waits : NoneRanked l i → Reached l i
+  is-least : i < length l → ((j : ℕ) → j < i → getD l i 0 < getD l j 0) → Reached l i
+
+module _ {l : List ℕ} where
+  pub reached-start : Reached l 0
+  reached-start = none-waits (λ j h. omega arith)
 
   -- A task that does not wait is passed.
-  pub reached-idle : {i : ℕ} → Reached m picked i → waiting m picked i ≡ false → Reached m picked (suc i)
-  reached-idle {i} (none-waits none) idle = none-waits (none-more m picked i none idle)
-  reached-idle {i} (is-next h next) idle = not-both (waiting m picked i) (next .waits) idle
+  pub reached-idle : {i : ℕ} → Reached l i → never ≤ getD l i 0 → Reached l (suc i)
+  reached-idle {i} (none-waits none) idle = none-waits (up (λ j. never ≤ getD l j 0) i none idle)
+  reached-idle {i} (is-least h first) idle = none-waits (up (λ j. never ≤ getD l j 0) i (λ j k. omega (arith, first j k)) idle)
 
-  -- One that waits is next so far.
-  pub reached-waiting : {i : ℕ} → Reached m picked i → waiting m picked i ≡ true → Next m picked (suc i) i
-  reached-waiting {i} (none-waits none) waits = first-waiting m picked i none waits
-  reached-waiting (is-next h next) waits = next
+  -- One that waits has the smallest rank so far.
+  pub reached-waiting : {i : ℕ} → Reached l i → getD l i 0 < never → Least l (suc i) i
+  reached-waiting {i} reached waits =
+      record {
+        inside = omega arith;
+        waits = waits;
+        least = up (λ j. getD l i 0 ≤ getD l j 0) i (λ j h. omega (arith, before reached j h)) (omega arith);
+        first = before reached;
+      }
+    where
+      before : Reached l i → (j : ℕ) → j < i → getD l i 0 < getD l j 0
+      before (none-waits none) j h = omega (arith, none j h)
+      before (is-least k first) j h = first j h
 
-  -- A rival that precedes the one that is next so far takes its place.
-  pub reached-rival : {n i : ℕ} →
-      Next m picked n i →
-      n < m .table .count →
-      waiting m picked n ≡ true →
-      precedes m n i ≡ true →
-      Reached m picked n
-  reached-rival {n} {i} next h waits sooner = is-next h (takes-over m picked n i next waits sooner)
+  -- It stays so beside a rank that is not smaller.
+  pub least-stays : {n i : ℕ} → Least l n i → getD l i 0 ≤ getD l n 0 → Least l (suc n) i
+  least-stays {n} {i} so-far last =
+      record {
+        inside = omega (arith, so-far .inside);
+        waits = so-far .waits;
+        least = up (λ j. getD l i 0 ≤ getD l j 0) n (so-far .least) last;
+        first = so-far .first;
+      }
 
-  -- Only one task is next.
-  pub next-only : {i : ℕ} → Next m picked (m .table .count) i → nextRunner m picked ≡ i
-  next-only {i} next =
-      let runner = next-runner m picked i (next .inside) (next .waits) in
-      by-equal (nextRunner m picked) i
-      (λ e. e)
-      (λ other.
-      not-both (precedes m i (nextRunner m picked))
-      (precedes-total m (nextRunner m picked) i other (next .first _ (runner .inside) (runner .waits)))
-      (runner .first i (next .inside) (next .waits)))
+  -- A rival with a smaller one takes its place.
+  pub reached-rival : {n i : ℕ} → Least l n i → n < length l → getD l n 0 < getD l i 0 → Reached l n
+  reached-rival so-far inside smaller = is-least inside (λ j h. omega (arith, so-far .least j h))
 
-  -- Past the last task: there is no next one.
-  pub reached-end : Reached m picked (m .table .count) → nextRunner m picked ≡ m .table .count
-  unfolding nextRunner
-  reached-end (none-waits none) = passes-all m picked 0 (m .table .count) (λ j h. none j (omega arith)) ∙ omega arith
-  reached-end (is-next h next) = absurd (omega arith)
+  -- Past the last one: none waits.
+  pub reached-end : Reached l (length l) → NoneRanked l (length l)
+  reached-end (none-waits none) = none
+  reached-end (is-least h first) = absurd (omega arith)

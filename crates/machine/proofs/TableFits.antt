@@ -2,19 +2,17 @@
 -- `sound-checks` and `sound-fits`.
 use Prim.Native.Nat.{ℕ}
 use mathlib.Core.Path.{_≡_, refl}
-use mathlib.Core.Bool.{Bool, true, false, _&&_}
-use lib.Dec.{leb}
+use mathlib.Core.Bool.{true, false, _&&_}
 use lib.ListN.{getD}
-use borrow.Author.Tests.{leb-true}
 use Rattle.tasks.specs.declared.task.Task.{Task}
 use Rattle.tasks.specs.declared.table.Table.{Table}
 use Rattle.tasks.specs.declared.outcome.Outcome.{Outcome}
 use Rattle.tasks.specs.declared.outcome.Outcome.the-variants.{Done, Refused}
-use Rattle.tasks.specs.Limits.{maxPeriod}
 use Rattle.tasks.specs.Task.{inRange}
 use Rattle.tasks.specs.Table.{zeroTask}
 use Rattle.tasks.specs.Check.{checked}
 use Rattle.tasks.proofs.Checked.{passes}
+use Rattle.tasks.proofs.Range.{range-of}
 use Rattle.edzl.specs.Window.{admitted}
 use Rattle.edzl.proofs.WellFormed.{TaskFits, WellFormed}
 use Rattle.edzl.proofs.Cases.{not-both}
@@ -24,19 +22,9 @@ use Rattle.machine.specs.Sound.{isDone, jobsSound, sound}
 use Rattle.machine.specs.declared.job.Machine.{Machine}
 
 task-fits : (t : Task) → inRange t ≡ true → TaskFits (t .period) (t .budget) (t .deadline)
-unfolding inRange
 task-fits t h =
-    go (leb 1 (t .budget)) (leb (t .budget) (t .deadline)) (leb (t .deadline) (t .period)) (leb (t .period) maxPeriod) refl refl refl h
-  where
-    go :
-        (a b d f : Bool) → leb 1 (t .budget) ≡ a → leb (t .budget) (t .deadline) ≡ b → leb (t .deadline) (t .period) ≡ d
-        → (a && b && d && f) ≡ true
-        → TaskFits (t .period) (t .budget) (t .deadline)
-    go true true true f p q r h =
-        record { budget-some = leb-true _ _ p; budget-fits = leb-true _ _ q; deadline-fits = leb-true _ _ r }
-    go false b d f p q r h = not-both false h refl
-    go true false d f p q r h = not-both false h refl
-    go true true false f p q r h = not-both false h refl
+    let r = range-of t h in
+    record { budget-some = r .budget-some; budget-fits = r .budget-fits; deadline-fits = r .deadline-fits }
 
 pub well-checked : (t : Table) (m : ℕ) → checked t m ≡ Done → WellFormed (tasksOf t)
 unfolding WellFormed tasksOf firstTasks

@@ -2,6 +2,7 @@ pub mod Job
 pub mod Precedence
 pub mod Pick
 pub mod Slot
+pub mod Rank
 pub mod Sound
 pub mod Calls
 pub mod Play

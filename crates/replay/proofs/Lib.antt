@@ -1,3 +1,10 @@
 pub mod WordLaws
 pub mod NumberLaws
-pub mod BoundLaws
+pub mod DigitLaws
+pub mod LineLaws
+pub mod CallLaws
+pub mod Growing
+pub mod OutputLaws
+pub mod Playing
+pub mod ScriptLaws
+pub mod ExamplesHold

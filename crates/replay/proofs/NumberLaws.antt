@@ -100,7 +100,7 @@ module _ (f : List ℕ) (n i : ℕ) (p : Scanned f n i) where
         broken f
         (rw (number-is, lt-leb n 4294967295 l, and-false (leb 1 (length f) && leb (length f) 10 && not (leadingZero f) && allDigits f)))
 
-    pub complete : 1 ≤ length f → length f ≤ 10 → leadingZero f ≡ false → n ≤ 4294967295 → Read n (length f) ≡ numberOf f
+    pub complete : 1 ≤ length f → length f ≤ 10 → leadingZero f ≡ false → n ≤ 4294967295 → Read n ≡ numberOf f
     unfolding isNumber numberOf
     complete l₁ l₂ z l =
         rw (le-leb 1 (length f) l₁, le-leb (length f) 10 l₂, z, all-digits, number-is, le-leb n 4294967295 l)

@@ -1,3 +1,8 @@
 pub mod Words
 pub mod Numbers
-pub mod Bounds
+pub mod Lines
+pub mod Calls
+pub mod Output
+pub mod Script
+pub mod Grown
+pub mod Examples

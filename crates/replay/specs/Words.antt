@@ -1,4 +1,4 @@
--- What a text begins with.
+-- The words of a script and of its answers, and what a text begins with.
 use Prim.Native.Nat.{ℕ}
 use mathlib.Core.List.{List, [], _∷_}
 use mathlib.Core.Bool.{Bool, true, false, _&&_}
@@ -9,3 +9,34 @@ unfoldable pub beginsWith : List ℕ → List ℕ → Bool
 beginsWith [] s = true
 beginsWith (b ∷ w) [] = false
 beginsWith (b ∷ w) (x ∷ s) = eqb x b && beginsWith w s
+
+-- "CORES", "RELEASE", "FINISH" and "JOIN", each with its space
+abbrev pub coresWord : List ℕ
+coresWord = 67 ∷ 79 ∷ 82 ∷ 69 ∷ 83 ∷ 32 ∷ []
+
+abbrev pub releaseWord : List ℕ
+releaseWord = 82 ∷ 69 ∷ 76 ∷ 69 ∷ 65 ∷ 83 ∷ 69 ∷ 32 ∷ []
+
+abbrev pub finishWord : List ℕ
+finishWord = 70 ∷ 73 ∷ 78 ∷ 73 ∷ 83 ∷ 72 ∷ 32 ∷ []
+
+abbrev pub joinWord : List ℕ
+joinWord = 74 ∷ 79 ∷ 73 ∷ 78 ∷ 32 ∷ []
+
+-- "SLOT" and "CALLS", each a line of its own
+abbrev pub slotWord : List ℕ
+slotWord = 83 ∷ 76 ∷ 79 ∷ 84 ∷ []
+
+abbrev pub callsWord : List ℕ
+callsWord = 67 ∷ 65 ∷ 76 ∷ 76 ∷ 83 ∷ []
+
+-- "DONE"
+abbrev pub doneWord : List ℕ
+doneWord = 68 ∷ 79 ∷ 78 ∷ 69 ∷ []
+
+-- "REFUSED" and "BAD LINE", each with its space
+abbrev pub refusedWord : List ℕ
+refusedWord = 82 ∷ 69 ∷ 70 ∷ 85 ∷ 83 ∷ 69 ∷ 68 ∷ 32 ∷ []
+
+abbrev pub badLineWord : List ℕ
+badLineWord = 66 ∷ 65 ∷ 68 ∷ 32 ∷ 76 ∷ 73 ∷ 78 ∷ 69 ∷ 32 ∷ []

@@ -1,4 +1,4 @@
-// The lines of a script after its line of cores: where its calls begin, and one call a line.
+// The lines of a script after its line of cores: where its calls begin, and the call of a line. A line stands here without its byte 10.
 use crate::numbers;
 use crate::numbers::Number;
 use crate::words;
@@ -6,12 +6,12 @@ use machine::call::Call;
 use reader::bytes;
 use tasks::task::Task;
 ghost use Prim.Native.Nat.{_≤_};
+ghost use mathlib.Core.Path.{_≡_};
 ghost use lib.ListN.{length};
-ghost use Rattle.replay.specs.Bounds.{CallWithin, StartWithin};
+ghost use Rattle.replay.specs.Calls.{joinOf, callOf, callsStart};
 
-// A call's line with its byte 10 is `length` bytes long.
 pub enum CallLine {
-    Read { call: Call, length: usize },
+    Read(Call),
     Bad,
 }
 
@@ -29,105 +29,74 @@ pub enum CallsStart {
 // Where the line CALLS stands in the text after the script's first line.
 pub fn find_calls(text: &[u8]) -> CallsStart
     requires { ⌜ length (now text) ≤ 65536 ⌝ }
-    ensures { λ r. ⌜ StartWithin (length (now (text .entry))) r ⌝ }
+    ensures { λ r. ⌜ r ≡ callsStart (now (text .entry)) ⌝ }
 {
     let mut at: usize = 0;
     let mut line: usize = 2;
     while at < text.len() {
         let rest = &text[at..];
-        if words::begins_with(rest, b"CALLS\n") {
-            return CallsStart::Found {
-                table: at,
-                calls: at + 6,
-                line: line + 1,
-            };
-        }
         let length = bytes::find(rest, b'\n');
         if rest.len() <= length {
             return CallsStart::Missing(line);
         }
-        at += length + 1;
+        let next = at + length + 1;
+        if bytes::same(&rest[..length], b"CALLS") {
+            return CallsStart::Found {
+                table: at,
+                calls: next,
+                line: line + 1,
+            };
+        }
+        at = next;
         line += 1;
     }
     CallsStart::Missing(line)
 }
 
-// The join whose three numbers a text begins with.
-fn join_fields(text: &[u8]) -> CallLine
-    ensures { λ r. ⌜ CallWithin (length (now (text .entry))) r ⌝ }
+// The join whose three numbers, with a space between them, are these fields.
+fn join_fields(fields: &[u8]) -> CallLine
+    ensures { λ r. ⌜ r ≡ joinOf (now (fields .entry)) ⌝ }
 {
-    let Number::Read {
-        number: period,
-        length: a,
-    } = numbers::number_before(text, b' ')
-    else {
+    let a = bytes::find(fields, b' ');
+    if fields.len() <= a {
+        return CallLine::Bad;
+    }
+    let rest = &fields[a + 1..];
+    let b = bytes::find(rest, b' ');
+    if rest.len() <= b {
+        return CallLine::Bad;
+    }
+    let Number::Read(period) = numbers::number_of(&fields[..a]) else {
         return CallLine::Bad;
     };
-    let rest = &text[a..];
-    let Number::Read {
-        number: budget,
-        length: b,
-    } = numbers::number_before(rest, b' ')
-    else {
+    let Number::Read(budget) = numbers::number_of(&rest[..b]) else {
         return CallLine::Bad;
     };
-    let last = &rest[b..];
-    let Number::Read {
-        number: deadline,
-        length: c,
-    } = numbers::number_before(last, b'\n')
-    else {
+    let Number::Read(deadline) = numbers::number_of(&rest[b + 1..]) else {
         return CallLine::Bad;
     };
-    let task = Task {
+    CallLine::Read(Call::Join(Task {
         period,
         budget,
         deadline,
-    };
-    let length = a + b + c;
-    CallLine::Read {
-        call: Call::Join(task),
-        length,
-    }
+    }))
 }
 
-// The join that a text begins with.
-fn join_line(text: &[u8]) -> CallLine
-    ensures { λ r. ⌜ CallWithin (length (now (text .entry))) r ⌝ }
+// The call of a line.
+pub fn call_line(line: &[u8]) -> CallLine
+    ensures { λ r. ⌜ r ≡ callOf (now (line .entry)) ⌝ }
 {
-    if !words::begins_with(text, b"JOIN ") {
-        return CallLine::Bad;
+    if bytes::same(line, b"SLOT") {
+        return CallLine::Read(Call::Slot);
     }
-    let CallLine::Read { call, length } = join_fields(&text[5..]) else {
-        return CallLine::Bad;
-    };
-    CallLine::Read {
-        call,
-        length: 5 + length,
+    if let Number::Read(number) = numbers::numbered_line(line, b"RELEASE ") {
+        return CallLine::Read(Call::Release(number));
     }
-}
-
-// The call that a text begins with.
-pub fn call_line(text: &[u8]) -> CallLine
-    ensures { λ r. ⌜ CallWithin (length (now (text .entry))) r ⌝ }
-{
-    if words::begins_with(text, b"SLOT\n") {
-        return CallLine::Read {
-            call: Call::Slot,
-            length: 5,
-        };
+    if let Number::Read(number) = numbers::numbered_line(line, b"FINISH ") {
+        return CallLine::Read(Call::Finish(number));
     }
-    if let Number::Read { number, length } = numbers::numbered_line(text, b"RELEASE ") {
-        return CallLine::Read {
-            call: Call::Release(number),
-            length,
-        };
+    if words::begins_with(line, b"JOIN ") {
+        return join_fields(&line[5..]);
     }
-    if let Number::Read { number, length } = numbers::numbered_line(text, b"FINISH ") {
-        return CallLine::Read {
-            call: Call::Finish(number),
-            length,
-        };
-    }
-    join_line(text)
+    CallLine::Bad
 }

@@ -2,11 +2,10 @@
 use crate::calls::CallLine;
 use crate::calls::CallsStart;
 use crate::numbers::Number;
-use crate::output::CAPACITY;
 use libc::STDIN_FILENO;
-use machine::answer::Answer;
-use machine::calls::zero_machine;
+use libc::STDOUT_FILENO;
 use machine::job::Machine;
+use reader::bytes;
 use tasks::outcome::Outcome;
 use tasks::refusals::TEXT_TOO_LONG;
 
@@ -15,89 +14,95 @@ mod numbers;
 mod output;
 mod words;
 
-ghost use Prim.Native.Nat.{_+_, _^_, _≤_, _<_};
+ghost use Prim.Native.Nat.{_≤_};
 ghost use lib.ListN.{length};
+ghost use Rattle.replay.specs.Lines.{lines, unended};
+ghost use Rattle.replay.specs.Grown.{Holds};
+ghost use Rattle.replay.specs.Script.{answers, printedFor, printed};
 
 // The most bytes that a script has.
 const MAX_SCRIPT_LENGTH: usize = 65_536;
 
 // One more byte than a script may have, so that a longer one is seen to be too long.
-const ROOM: usize = 65_537;
+const INPUT_ROOM: usize = 65_537;
 
-// A fresh machine on the table of a text, or the refusal of reading it or of starting.
-fn start(text: &[u8], cores: u32) -> Answer {
-    let reading = reader::read(text);
-    let outcome = reading.outcome;
-    let table = reading.table;
-    if let Outcome::Refused { number, place: _ } = outcome {
-        return Answer::refused(zero_machine(), number);
-    }
-    Machine::start(table, cores)
-}
+// 9 bytes for each byte of a script, and 32 more: a call's line has at least 5 bytes, and its answer's at most 44.
+const OUTPUT_ROOM: usize = 589_856;
 
-// The answers to the calls of a text, the first of which is on the line `first` of the script.
-fn play(text: &[u8], started: Machine, first: usize, buffer: &mut [u8; CAPACITY]) -> usize
-    requires { ⌜ first + length (now text) < 2 ^ 64 ⌝ }
-    ensures { λ r. ⌜ r ≤ 4096 ⌝ }
+// Puts the answers to the calls of a text, the first of which is on the line `first` of the script.
+fn play(text: &[u8], started: Machine, first: usize, output: &mut [u8]) -> usize
+    requires { ⌜ (length (now text) ≤ 65536) × (first ≤ 65539) × (589856 ≤ length (now output)) ⌝ }
+    ensures { λ r. ⌜ Holds (answers started first (lines (now (text .entry))) (unended (now (text .entry)))) (now (output .exit)) r ⌝ }
 {
     let mut machine = started;
     let mut rest = text;
     let mut line = first;
     let mut used: usize = 0;
     while 0 < rest.len() {
-        let CallLine::Read { call, length } = calls::call_line(rest) else {
-            return output::put_bad_line(buffer, used, line);
+        let length = bytes::find(rest, b'\n');
+        if rest.len() <= length {
+            return output::put_bad_line(output, used, line);
+        }
+        let CallLine::Read(call) = calls::call_line(&rest[..length]) else {
+            return output::put_bad_line(output, used, line);
         };
         let answer = machine.step(call);
-        used = output::put_answer(buffer, used, call, answer);
+        used = output::put_answer(output, used, call, answer);
         machine = answer.machine;
-        rest = &rest[length..];
+        rest = &rest[length + 1..];
         line += 1;
     }
     used
 }
 
-// The answers to the calls of a text, or the refusal of the table.
-fn run(table: &[u8], cores: u32, calls: &[u8], first: usize, buffer: &mut [u8; CAPACITY]) -> usize
-    requires { ⌜ first + length (now calls) < 2 ^ 64 ⌝ }
-    ensures { λ r. ⌜ r ≤ 4096 ⌝ }
+// Puts the answers to the calls of a text, or the refusal of the table's text or of the cores.
+fn run(text: &[u8], cores: u32, calls: &[u8], first: usize, output: &mut [u8]) -> usize
+    requires { ⌜ (length (now calls) ≤ 65536) × (first ≤ 65539) × (589856 ≤ length (now output)) ⌝ }
+    ensures { λ r. ⌜ Holds (printedFor (now (text .entry)) cores first (now (calls .entry))) (now (output .exit)) r ⌝ }
 {
-    let started = start(table, cores);
+    let reading = reader::read(text);
+    let outcome = reading.outcome;
+    if let Outcome::Refused { number, place: _ } = outcome {
+        return output::put_refused(output, 0, number);
+    }
+    let table = reading.table;
+    let started = Machine::start(table, cores);
     let outcome = started.outcome;
     if let Outcome::Refused { number, place: _ } = outcome {
-        return output::put_refused(buffer, 0, number);
+        return output::put_refused(output, 0, number);
     }
     let machine = started.machine;
-    play(calls, machine, first, buffer)
+    play(calls, machine, first, output)
 }
 
-// The answers to a script, the last of which are left in the buffer: how many bytes it holds.
-fn replay(script: &[u8], buffer: &mut [u8; CAPACITY]) -> usize
-    ensures { λ r. ⌜ r ≤ 4096 ⌝ }
+// Puts what is printed for a script at the start of the output: how many bytes it is.
+fn replay(script: &[u8], output: &mut [u8]) -> usize
+    requires { ⌜ 589856 ≤ length (now output) ⌝ }
+    ensures { λ r. ⌜ Holds (printed (now (script .entry))) (now (output .exit)) r ⌝ }
 {
     if MAX_SCRIPT_LENGTH < script.len() {
-        return output::put_refused(buffer, 0, TEXT_TOO_LONG);
+        return output::put_refused(output, 0, TEXT_TOO_LONG);
     }
-    let Number::Read {
-        number: cores,
-        length: head,
-    } = numbers::numbered_line(script, b"CORES ")
-    else {
-        return output::put_bad_line(buffer, 0, 1);
+    let length = bytes::find(script, b'\n');
+    if script.len() <= length {
+        return output::put_bad_line(output, 0, 1);
+    }
+    let Number::Read(cores) = numbers::numbered_line(&script[..length], b"CORES ") else {
+        return output::put_bad_line(output, 0, 1);
     };
-    let text = &script[head..];
+    let text = &script[length + 1..];
     match calls::find_calls(text) {
-        CallsStart::Missing(line) => output::put_bad_line(buffer, 0, line),
+        CallsStart::Missing(line) => output::put_bad_line(output, 0, line),
         CallsStart::Found { table, calls, line } => {
-            run(&text[..table], cores, &text[calls..], line, buffer)
+            run(&text[..table], cores, &text[calls..], line, output)
         }
     }
 }
 
 fn main() {
-    let mut space = [0u8; ROOM];
-    let mut buffer = [0u8; CAPACITY];
+    let mut space = [0u8; INPUT_ROOM];
+    let mut output = [0u8; OUTPUT_ROOM];
     let n = io::read_full(STDIN_FILENO, &mut space);
-    let used = replay(&space[..n], &mut buffer);
-    output::flush(&buffer, used);
+    let used = replay(&space[..n], &mut output);
+    io::write_all(STDOUT_FILENO, &output[..used]);
 }

@@ -1,10 +1,7 @@
 // Numbers of a script: 1 to 10 digits without a leading zero, at most 32 bits.
 use crate::words;
-use reader::bytes;
 ghost use mathlib.Core.Path.{_≡_};
-ghost use lib.ListN.{length};
-ghost use Rattle.replay.specs.Numbers.{numberOf};
-ghost use Rattle.replay.specs.Bounds.{NumberWithin};
+ghost use Rattle.replay.specs.Numbers.{numberOf, numberAfter};
 
 // The longest number, in digits.
 const MAX_DIGITS: usize = 10;
@@ -12,14 +9,13 @@ const MAX_DIGITS: usize = 10;
 // The largest number.
 const MAX_NUMBER: u64 = 4_294_967_295;
 
-// A number that takes `length` bytes of the text.
 pub enum Number {
-    Read { number: u32, length: usize },
+    Read(u32),
     Broken,
 }
 
 // The number that a field is.
-fn number_of(field: &[u8]) -> Number
+pub fn number_of(field: &[u8]) -> Number
     ensures { λ r. ⌜ r ≡ numberOf (now (field .entry)) ⌝ }
 {
     let length = field.len();
@@ -50,42 +46,16 @@ fn number_of(field: &[u8]) -> Number
     if MAX_NUMBER < sum {
         return Number::Broken;
     }
-    Number::Read {
-        number: sum as u32,
-        length,
-    }
-}
-
-// The number before the first byte `end` of a text, and its length with that byte.
-pub fn number_before(text: &[u8], end: u8) -> Number
-    ensures { λ r. ⌜ NumberWithin (length (now (text .entry))) r ⌝ }
-{
-    let n = bytes::find(text, end);
-    if text.len() <= n {
-        return Number::Broken;
-    }
-    let Number::Read { number, length: _ } = number_of(&text[..n]) else {
-        return Number::Broken;
-    };
-    Number::Read {
-        number,
-        length: n + 1,
-    }
+    Number::Read(sum as u32)
 }
 
 // The number of a line that is a word and one number: the word has its space.
-pub fn numbered_line(text: &[u8], word: &[u8]) -> Number
-    ensures { λ r. ⌜ NumberWithin (length (now (text .entry))) r ⌝ }
+pub fn numbered_line(line: &[u8], word: &[u8]) -> Number
+    ensures { λ r. ⌜ r ≡ numberAfter (now (word .entry)) (now (line .entry)) ⌝ }
 {
-    if !words::begins_with(text, word) {
+    if !words::begins_with(line, word) {
         return Number::Broken;
     }
     let start = word.len();
-    let Number::Read { number, length } = number_before(&text[start..], b'\n') else {
-        return Number::Broken;
-    };
-    Number::Read {
-        number,
-        length: start + length,
-    }
+    number_of(&line[start..])
 }

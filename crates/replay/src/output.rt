@@ -1,97 +1,87 @@
-// Printing through a buffer, so that one write serves many lines. What puts a text answers how many bytes the buffer then holds.
-use libc::STDOUT_FILENO;
+// Putting a text together in one array. What puts a text answers how many bytes the array then holds.
 use machine::answer::Answer;
 use machine::answer::Report;
 use machine::answer::mask;
 use machine::call::Call;
 use tasks::outcome::Outcome;
-ghost use Prim.Native.Nat.{_≤_};
+ghost use Prim.Native.Nat.{_+_, _≤_, _<_, _^_};
+ghost use mathlib.Core.List.{[], _∷_, _++_};
+ghost use lib.ListN.{length};
+ghost use Rattle.replay.specs.Numbers.{decimalText};
+ghost use Rattle.replay.specs.Output.{refusedLine, badLine, reportLine, answerLine};
+ghost use Rattle.replay.specs.Grown.{Grown};
 
-// How many bytes the buffer has room for.
-pub const CAPACITY: usize = 4_096;
-
-// Writes the first `used` bytes of the buffer.
-pub fn flush(buffer: &[u8; CAPACITY], used: usize)
-    requires { ⌜ used ≤ 4096 ⌝ }
-{
-    let bytes: &[u8] = buffer;
-    io::write_all(STDOUT_FILENO, &bytes[..used]);
-}
-
-// Puts a text after the first `used` bytes: a full buffer is written first.
-fn put(buffer: &mut [u8; CAPACITY], used: usize, text: &[u8]) -> usize
-    requires { ⌜ used ≤ 4096 ⌝ }
-    ensures { λ r. ⌜ r ≤ 4096 ⌝ }
+// Puts a text after the first `used` bytes.
+fn put(output: &mut [u8], used: usize, text: &[u8]) -> usize
+    requires { ⌜ used + length (now text) ≤ length (now output) ⌝ }
+    ensures { λ r. ⌜ Grown (now (output .entry)) used (now (text .entry)) (now (output .exit)) r ⌝ }
 {
     let mut at = used;
     let mut i: usize = 0;
     while i < text.len() {
-        if CAPACITY <= at {
-            io::write_all(STDOUT_FILENO, buffer);
-            at = 0;
-        }
-        buffer[at] = text[i];
+        output[at] = text[i];
         at += 1;
         i += 1;
     }
     at
 }
 
-// Puts a number in base ten, and what follows it.
-fn put_field(buffer: &mut [u8; CAPACITY], used: usize, number: u64, end: &[u8]) -> usize
-    requires { ⌜ used ≤ 4096 ⌝ }
-    ensures { λ r. ⌜ r ≤ 4096 ⌝ }
+// Puts a number in base ten, and the byte that follows it.
+fn put_number(output: &mut [u8], used: usize, number: u32, end: u8) -> usize
+    requires { ⌜ used + 11 ≤ length (now output) ⌝ }
+    ensures { λ r. ⌜ Grown (now (output .entry)) used (decimalText number ++ end ∷ []) (now (output .exit)) r ⌝ }
 {
     let mut digits = [0u8; 20];
-    let n = io::decimal(number, &mut digits);
-    let at = put(buffer, used, &digits[..n]);
-    put(buffer, at, end)
+    let n = io::decimal(number as u64, &mut digits);
+    let at = put(output, used, &digits[..n]);
+    output[at] = end;
+    at + 1
 }
 
 // The line of a refused call, table or script.
-pub fn put_refused(buffer: &mut [u8; CAPACITY], used: usize, number: u32) -> usize
-    requires { ⌜ used ≤ 4096 ⌝ }
-    ensures { λ r. ⌜ r ≤ 4096 ⌝ }
+pub fn put_refused(output: &mut [u8], used: usize, number: u32) -> usize
+    requires { ⌜ used + 19 ≤ length (now output) ⌝ }
+    ensures { λ r. ⌜ Grown (now (output .entry)) used (refusedLine number) (now (output .exit)) r ⌝ }
 {
-    let at = put(buffer, used, b"REFUSED ");
-    put_field(buffer, at, number as u64, b"\n")
+    let at = put(output, used, b"REFUSED ");
+    put_number(output, at, number, b'\n')
 }
 
 // The line for a line of the script that is not what it must be.
-pub fn put_bad_line(buffer: &mut [u8; CAPACITY], used: usize, line: usize) -> usize
-    requires { ⌜ used ≤ 4096 ⌝ }
-    ensures { λ r. ⌜ r ≤ 4096 ⌝ }
+pub fn put_bad_line(output: &mut [u8], used: usize, line: usize) -> usize
+    requires { ⌜ (used + 20 ≤ length (now output)) × (line < 2 ^ 32) ⌝ }
+    ensures { λ r. ⌜ Grown (now (output .entry)) used (badLine line) (now (output .exit)) r ⌝ }
 {
-    let at = put(buffer, used, b"BAD LINE ");
-    put_field(buffer, at, line as u64, b"\n")
+    let at = put(output, used, b"BAD LINE ");
+    put_number(output, at, line as u32, b'\n')
 }
 
 // The tasks that ran, finished and were late in a slot, and the number of runners.
-fn put_report(buffer: &mut [u8; CAPACITY], used: usize, report: Report) -> usize
-    requires { ⌜ used ≤ 4096 ⌝ }
-    ensures { λ r. ⌜ r ≤ 4096 ⌝ }
+fn put_report(output: &mut [u8], used: usize, report: Report) -> usize
+    requires { ⌜ used + 44 ≤ length (now output) ⌝ }
+    ensures { λ r. ⌜ Grown (now (output .entry)) used (reportLine report) (now (output .exit)) r ⌝ }
 {
     let ran = report.ran;
     let finished = report.finished;
     let late = report.late;
-    let a = put_field(buffer, used, mask(ran), b" ");
-    let b = put_field(buffer, a, mask(finished), b" ");
-    let c = put_field(buffer, b, mask(late), b" ");
-    put_field(buffer, c, report.runners as u64, b"\n")
+    let a = put_number(output, used, mask(ran) as u32, b' ');
+    let b = put_number(output, a, mask(finished) as u32, b' ');
+    let c = put_number(output, b, mask(late) as u32, b' ');
+    put_number(output, c, report.runners, b'\n')
 }
 
 // The line of a call's answer.
-pub fn put_answer(buffer: &mut [u8; CAPACITY], used: usize, call: Call, answer: Answer) -> usize
-    requires { ⌜ used ≤ 4096 ⌝ }
-    ensures { λ r. ⌜ r ≤ 4096 ⌝ }
+pub fn put_answer(output: &mut [u8], used: usize, call: Call, answer: Answer) -> usize
+    requires { ⌜ used + 44 ≤ length (now output) ⌝ }
+    ensures { λ r. ⌜ Grown (now (output .entry)) used (answerLine call answer) (now (output .exit)) r ⌝ }
 {
     let outcome = answer.outcome;
     if let Outcome::Refused { number, place: _ } = outcome {
-        return put_refused(buffer, used, number);
+        return put_refused(output, used, number);
     }
     let Call::Slot = call else {
-        return put(buffer, used, b"DONE\n");
+        return put(output, used, b"DONE\n");
     };
     let report = answer.report;
-    put_report(buffer, used, report)
+    put_report(output, used, report)
 }

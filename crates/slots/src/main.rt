@@ -3,6 +3,7 @@ use libc::STDIN_FILENO;
 use libc::STDOUT_FILENO;
 use machine::answer::Report;
 use machine::answer::mask;
+use machine::job::Job;
 use machine::job::Machine;
 use tasks::limits::MAX_TASKS;
 ghost use Prim.Native.Nat.{_≤_};
@@ -29,39 +30,39 @@ fn with_report(sum: u64, report: Report) -> u64 {
     folded(folded(folded(sum, mask(ran)), mask(finished)), mask(late))
 }
 
-// The machine after a release of each of its first `count` tasks whose next release is allowed and whose job is closed.
-fn with_releases(machine: Machine, count: usize) -> Machine
-    requires { ⌜ count ≤ 32 ⌝ }
-{
-    let mut after = machine;
-    let mut i: usize = 0;
-    while i < count {
-        let job = after.jobs[i];
-        if job.gap == 0 {
-            if !job.open {
-                let answer = after.release(i as u32 + 1);
-                after = answer.machine;
-            }
-        }
-        i += 1;
+// Whether a release of the job's task would be accepted.
+fn may_release(job: Job) -> bool {
+    if job.open {
+        return false;
     }
-    after
+    job.gap == 0
 }
 
-// The checksum of the reports of so many slots of a machine of `count` tasks, each slot after the releases that are allowed.
+// The checksum of the reports of so many slots of a machine of `count` tasks. Before each slot every task whose release would be accepted
+// is released: a turn of the loop looks at one task, and after the last task it plays the slot.
 fn play(machine: Machine, count: usize, slots: u64) -> u64
     requires { ⌜ count ≤ 32 ⌝ }
 {
     let mut after = machine;
     let mut sum: u64 = 0;
     let mut number: u64 = 0;
+    let mut next: usize = 0;
     while number < slots {
-        number += 1;
-        let released = with_releases(after, count);
-        let answer = released.slot();
-        let report = answer.report;
-        sum = with_report(sum, report);
-        after = answer.machine;
+        if next < count {
+            let job = after.jobs[next];
+            next += 1;
+            if may_release(job) {
+                let answer = after.release(next as u32);
+                after = answer.machine;
+            }
+        } else {
+            let answer = after.slot();
+            let report = answer.report;
+            sum = with_report(sum, report);
+            after = answer.machine;
+            next = 0;
+            number += 1;
+        }
     }
     sum
 }

@@ -27,7 +27,7 @@ count-urgent-requires : tie.Need-count-urgent-requires
 count-urgent-requires c κs =
     let d = c .before .before .before in
     let p = passes _ _ (sym (d .check .ensures) ∙ c .before .enum-told .given .1) in
-    (p .count-fits, p .cores-fit)
+    ((p .count-fits, p .cores-fit), p .tasks-fit)
 
 returns-2 : tie.Need-returns-2
 unfolding judged judgedAfter valuesOf tasksOf admitted

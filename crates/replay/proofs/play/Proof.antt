@@ -1,22 +1,49 @@
--- `play` is safe and ends: the line's number and what is left of the text together do not grow.
-use Prim.Native.Nat.{ℕ, _+_, _-_, _≤_, _<_}
+-- `play` meets its contract. The invariant: what the array holds, and the answers to the rest of the text, are the whole output.
+use Prim.Native.Nat.{_<_}
+use native.Mathlib.Nat.{le-of-lt}
 use native.Mathlib.Omega.{arith}
-use mathlib.Core.List.{List}
+use mathlib.Core.Path.{_≡_, refl, sym, _∙_}
 use borrow.Author.Needs.{needs}
-use lib.ListN.{length, take, drop}
-use Rattle.replay.specs.Bounds.{Within}
-use Rattle.replay.proofs.BoundLaws.{part-length, call-within}
+use lib.ListN.{length, take}
+use lib.Seq.{length-take-le}
+use Rattle.replay.specs.declared.calls.CallLine.the-variants.{Read}
+use Rattle.replay.specs.Lines.{lines, unended}
+use Rattle.replay.specs.Calls.{callOf}
+use Rattle.replay.specs.Script.{answers}
+use Rattle.replay.proofs.Playing.{Playing, play-none, play-all, not-ended, no-call, room-for, shorter, play-more}
 use Rattle.replay.proofs.play.Statement.{statement}
 use Rattle.replay.proofs.play.Tie as tie
 
 abbrev Inv-loop : tie.InvT-loop
-Inv-loop text first buffer₀ machine₀ rest₀ line₀ used₀ buffer machine rest line used = (line + length rest ≤ first + length text) × (used ≤ 4096)
+Inv-loop text first output₀ machine₀ rest₀ line₀ used₀ output machine rest line used =
+    Playing (answers machine₀ first (lines text) (unended text)) output used machine line rest × (length output ≡ length output₀)
 
 abbrev μ-loop : tie.MeasureT-loop
-μ-loop text first buffer₀ machine₀ rest₀ line₀ used₀ buffer machine rest line used = length rest
+μ-loop text first output₀ machine₀ rest₀ line₀ used₀ output machine rest line used = length rest
 
 loop-holds : tie.Need-loop-holds Inv-loop μ-loop
-loop-holds c = search needs
+loop-holds c = let h = c .before .before .pre in (play-none _ _ _ _ (h .0) (h .1) (h .2), refl)
+
+find-requires : tie.Need-find-requires Inv-loop μ-loop
+find-requires c κs = search needs
+
+put-bad-line-requires : tie.Need-put-bad-line-requires Inv-loop μ-loop
+put-bad-line-requires c κs =
+    let p = c .before .before .before .before .loop .inv .0 in
+    (omega (arith, p .room, p .size), omega (arith, p .few))
+
+same-length : tie.Need-same-length Inv-loop μ-loop
+same-length c = search needs
+
+returns : tie.Need-returns Inv-loop μ-loop
+returns c =
+    let b = c .before .before in
+    let t = b .before .before in
+    let l = t .before .before in
+    not-ended _ _ _ _ _ _ (l .before .loop .inv .0) _ _ (b .put-bad-line .ensures) _ (t .before .find .ensures) (l .loop-test .taken) (t .if1 .taken)
+
+slice-aggregate-call-line : tie.Need-slice-aggregate-call-line Inv-loop μ-loop
+slice-aggregate-call-line c = sym (length-take-le _ _ (le-of-lt (c .before .if1 .left)))
 
 call-line-requires : tie.Need-call-line-requires Inv-loop μ-loop
 call-line-requires c κs = search needs
@@ -27,57 +54,93 @@ enum-known-call c = search needs
 enum-told : tie.Need-enum-told Inv-loop μ-loop
 enum-told c = search needs
 
-put-bad-line-requires : tie.Need-put-bad-line-requires Inv-loop μ-loop
-put-bad-line-requires c κs = search needs
+-- the line of a call, which ends within the rest of the text
+abbrev at-line : tie.Else1 Inv-loop μ-loop → tie.At-loop Inv-loop μ-loop
+at-line c = c .before .before .before
 
-returns : tie.Need-returns Inv-loop μ-loop
-returns c = search needs
+abbrev line-of : tie.After-call Inv-loop μ-loop → tie.Else1 Inv-loop μ-loop
+line-of c = c .before .before .before .before
+
+call-is :
+    (c : tie.After-call Inv-loop μ-loop)
+    → let e = line-of c in callOf (take (e .before .find .result) (at-line e .loop .rest .now)) ≡ Read (c .call .given .0 .0)
+call-is c = sym (c .before .before .call-line .ensures) ∙ c .call .given .1
+
+put-bad-line-requires-2 : tie.Need-put-bad-line-requires-2 Inv-loop μ-loop
+put-bad-line-requires-2 c κs =
+    let p = at-line (c .before .before .before .before .before) .loop .inv .0 in
+    (omega (arith, p .room, p .size), omega (arith, p .few))
+
+same-length-2 : tie.Need-same-length-2 Inv-loop μ-loop
+same-length-2 c = search needs
+
+returns-2 : tie.Need-returns-2 Inv-loop μ-loop
+returns-2 c =
+    let b = c .before .before in
+    let t = b .before .before in
+    let d = t .before .before in
+    let e = d .before .before in
+    no-call _ _ _ _ _ _ (at-line e .loop .inv .0) _ _ (b .put-bad-line2 .ensures) _ (e .before .find .ensures) (e .if1 .left)
+    (sym (d .call-line .ensures) ∙ t .enum-told .given .1)
 
 step-requires : tie.Need-step-requires Inv-loop μ-loop
 step-requires c κs = search needs
 
 put-answer-requires : tie.Need-put-answer-requires Inv-loop μ-loop
-put-answer-requires c κs = search needs
+put-answer-requires c κs =
+    let k = c .before .before .before in
+    let e = line-of k in
+    room-for _ _ _ _ _ _ (at-line e .loop .inv .0) _ (e .before .find .ensures) (e .if1 .left) _ (call-is k)
 
--- what is left of the text where a call was read, and the length of the call's line
-abbrev rest : tie.After-call Inv-loop μ-loop → List ℕ
-rest c = c .before .before .before .before .loop .rest .now
+-- from the place after the call's answer to the line
+abbrev answered-at : tie.After-machine Inv-loop μ-loop → tie.After-call Inv-loop μ-loop
+answered-at c = c .before .before .before .before .before .before .before
 
-abbrev line-length : tie.After-call Inv-loop μ-loop → ℕ
-line-length c = c .call .given .0 .1 .0
+ended :
+    (c : tie.After-machine Inv-loop μ-loop)
+    → let e = line-of (answered-at c) in e .before .find .result < length (at-line e .loop .rest .now)
+ended c = line-of (answered-at c) .if1 .left
 
-within : (c : tie.After-call Inv-loop μ-loop) → Within (length (rest c)) (line-length c)
-within c = call-within _ _ _ _ (c .before .before .call-line .ensures) (c .call .given .1)
+add-rest : tie.Need-add-rest Inv-loop μ-loop
+add-rest c = omega (arith, ended c)
 
 sub-rest : tie.Need-sub-rest Inv-loop μ-loop
-sub-rest c = within (c .before .before .before .before .before) .fits
+sub-rest c = omega (arith, ended c)
 
 part-rest-start : tie.Need-part-rest-start Inv-loop μ-loop
-part-rest-start c = within (c .before .before .before .before .before) .fits
+part-rest-start c = omega (arith, ended c)
 
 part-rest-end : tie.Need-part-rest-end Inv-loop μ-loop
 part-rest-end c = search needs
 
 add-line : tie.Need-add-line Inv-loop μ-loop
-add-line c = omega arith
-
--- the rest of the text is shorter by the line
-shorter :
-    (c : tie.After-rest Inv-loop μ-loop)
-    → let d = c .before .before .before .before .before .before in
-    length (take (length (rest d) - line-length d) (drop (line-length d) (rest d))) < length (rest d)
-shorter c =
-    let d = c .before .before .before .before .before .before in
-    omega (arith, within d, part-length (rest d) (line-length d))
+add-line c = omega (arith, at-line (line-of (answered-at (c .before))) .loop .inv .0 .few)
 
 loop-less : tie.Need-loop-less Inv-loop μ-loop
-loop-less c = omega (arith, shorter c)
+loop-less c =
+    let k = answered-at (c .before) in
+    let e = line-of k in
+    shorter _ _ _ _ _ _ (at-line e .loop .inv .0) _ (e .before .find .ensures) (e .if1 .left) _ (call-is k)
 
 loop-again : tie.Need-loop-again Inv-loop μ-loop
-loop-again c = omega (arith, shorter c)
+loop-again c =
+    let k = answered-at (c .before) in
+    let e = line-of k in
+    let l = at-line e in
+    let a = c .before .before .before .before in
+    let t = a .before .before in
+    let z : length (a .put-answer .last .0) ≡ length (l .loop .output) = search needs in (
+      rw (t .step .ensures)
+          (play-more _ _ _ _ _ _ (l .loop .inv .0) _ (e .before .find .ensures) (e .if1 .left) _ (call-is k) _ _
+          (rw (t .step .ensures) at (a .put-answer .ensures)) z),
+      z ∙ l .loop .inv .1,
+    )
 
-returns-2 : tie.Need-returns-2 Inv-loop μ-loop
-returns-2 c = search needs
+same-length-3 : tie.Need-same-length-3 Inv-loop μ-loop
+same-length-3 c = c .before .loop .inv .1
+
+returns-3 : tie.Need-returns-3 Inv-loop μ-loop
+returns-3 c = play-all _ _ _ _ _ _ (c .before .loop .inv .0) (c .loop-test .left)
 
 pub play-spec : {M : Type 1} → statement M
 play-spec =
@@ -86,17 +149,25 @@ play-spec =
     Inv-loop
     μ-loop
     loop-holds
+    find-requires
+    put-bad-line-requires
+    same-length
+    returns
+    slice-aggregate-call-line
     call-line-requires
     enum-known-call
     enum-told
-    put-bad-line-requires
-    returns
+    put-bad-line-requires-2
+    same-length-2
+    returns-2
     step-requires
     put-answer-requires
+    add-rest
     sub-rest
     part-rest-start
     part-rest-end
     add-line
     loop-less
     loop-again
-    returns-2)
+    same-length-3
+    returns-3)

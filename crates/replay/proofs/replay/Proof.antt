@@ -1,24 +1,98 @@
--- `replay` meets its contract: the first line and the line of the calls lie within the script.
-use Prim.Native.Nat.{ℕ, _-_}
+-- `replay` meets its contract: by the script's length, its first line, and the line of its calls.
+use Prim.Native.Nat.{ℕ, _+_, _-_, _≤_, _<_}
+use native.Mathlib.Nat.{le-of-lt}
 use native.Mathlib.Omega.{arith}
-use mathlib.Core.Path.{sym}
+use mathlib.Core.Path.{_≡_, sym, ap, _∙_}
 use mathlib.Core.List.{List}
 use borrow.Author.Needs.{needs}
-use lib.ListN.{length, take, drop}
+use borrow.Author.Tests.{lt-ltb}
+use lib.ListN.{length}
 use lib.Seq.{length-take-le}
-use Rattle.replay.specs.Bounds.{Within, Begins}
-use Rattle.replay.proofs.BoundLaws.{part-length, number-within, start-within}
+use Rattle.reader.proofs.Scan.{part}
+use Rattle.reader.proofs.NamesLine.{past}
+use Rattle.reader.proofs.ValueLine.{rest-length}
+use Rattle.replay.specs.declared.calls.CallsStart.{CallsStart}
+use Rattle.replay.specs.Script.{printedAfterCores, printed}
+use Rattle.replay.proofs.CallLaws.{Within, found-within, missing-few}
+use Rattle.replay.proofs.Growing.{grown-all}
+use Rattle.replay.proofs.ScriptLaws.{first-unended, first-broken, first-read}
 use Rattle.replay.proofs.replay.Statement.{statement}
 use Rattle.replay.proofs.replay.Tie as tie
+
+-- the script, where its first line ends, and the text after that line
+abbrev script : tie.Else2 → List ℕ
+script c = c .before .before .before .before .before .args .script .now
+
+abbrev text : tie.Else2 → List ℕ
+text c = past (script c) (c .before .find .result)
+
+script-few : (c : tie.Else1) → length (c .before .before .before .args .script .now) ≤ 65536
+script-few c = omega (arith, c .if1 .left)
+
+-- that place, from where the cores were read, and from where the line of the calls was looked for
+abbrev line-of : tie.After-cores → tie.Else2
+line-of c = c .before .before .before .before .before
+
+abbrev cores-of : tie.After-find-calls → tie.After-cores
+cores-of c = c .before .before .before
+
+-- what is printed, by what the search for the line of the calls gave
+printed-is :
+    (c : tie.After-find-calls) (found : CallsStart) → c .find-calls .result ≡ found
+    → let d = cores-of c in
+    let e = line-of d in
+    printed (script e) ≡ printedAfterCores found (d .cores .given .0 .0) (text e)
+printed-is c found f =
+    let d = cores-of c in
+    let n = d .before .before in
+    let e = line-of d in
+    first-read _ (script-few (e .before .before)) _ (e .before .find .ensures) (e .if2 .left) _ (sym (n .numbered-line .ensures) ∙ d .cores .given .1)
+    ∙ ap (λ (s : CallsStart). printedAfterCores s (d .cores .given .0 .0) (text e)) (sym (c .find-calls .ensures) ∙ f)
+
+-- the table and the calls lie within the text
+found :
+    (c : tie.After-table)
+    → Within (length (text (line-of (cores-of (c .before .before))))) (c .table .given .0 .0) (c .table .given .0 .1 .0) (c .table .given .0 .1 .1 .0)
+found c = found-within _ _ _ _ (sym (c .before .before .find-calls .ensures) ∙ c .table .given .1)
+
+-- the text is no longer than a script may be
+text-few : (c : tie.Else2) → length (text c) ≤ 65536
+text-few c = omega (arith, script-few (c .before .before), rest-length (script c) (c .before .find .result + 1))
 
 put-refused-requires : tie.Need-put-refused-requires
 put-refused-requires c κs = search needs
 
+same-length : tie.Need-same-length
+same-length c = search needs
+
 returns : tie.Need-returns
-returns c = search needs
+unfolding printed
+returns c =
+    let p = c .before .before in
+    let t = p .before .before in
+    let h : 65536 < length (t .before .before .before .args .script .now) = omega (arith, t .if1 .taken) in
+    rw (lt-ltb _ _ h) (grown-all _ _ _ _ (p .put-refused .ensures))
+
+find-requires : tie.Need-find-requires
+find-requires c κs = search needs
+
+put-bad-line-requires : tie.Need-put-bad-line-requires
+put-bad-line-requires c κs = search needs
+
+same-length-2 : tie.Need-same-length-2
+same-length-2 c = search needs
+
+returns-2 : tie.Need-returns-2
+returns-2 c =
+    let p = c .before .before in
+    let t = p .before .before in
+    rw (first-unended _ (script-few (t .before .before)) _ (t .before .find .ensures) (t .if2 .taken)) (grown-all _ _ _ _ (p .put-bad-line .ensures))
 
 slice-aggregate-numbered-line : tie.Need-slice-aggregate-numbered-line
-slice-aggregate-numbered-line c = search needs
+slice-aggregate-numbered-line c = sym (length-take-le _ _ (le-of-lt (c .before .if2 .left)))
+
+slice-aggregate-numbered-line-2 : tie.Need-slice-aggregate-numbered-line-2
+slice-aggregate-numbered-line-2 c = search needs
 
 numbered-line-requires : tie.Need-numbered-line-requires
 numbered-line-requires c κs = search needs
@@ -29,36 +103,29 @@ enum-known-cores c = search needs
 enum-told : tie.Need-enum-told
 enum-told c = search needs
 
-put-bad-line-requires : tie.Need-put-bad-line-requires
-put-bad-line-requires c κs = search needs
+put-bad-line-requires-2 : tie.Need-put-bad-line-requires-2
+put-bad-line-requires-2 c κs = search needs
 
-returns-2 : tie.Need-returns-2
-returns-2 c = search needs
+same-length-3 : tie.Need-same-length-3
+same-length-3 c = search needs
 
-abbrev script : tie.After-cores → List ℕ
-script c = c .before .before .before .before .before .before .args .script .now
+returns-3 : tie.Need-returns-3
+returns-3 c =
+    let p = c .before .before in
+    let t = p .before .before in
+    let n = t .before .before in
+    let e = n .before .before .before in
+    rw (first-broken _ (script-few (e .before .before)) _ (e .before .find .ensures) (e .if2 .left) (sym (n .numbered-line .ensures) ∙ t .enum-told .given .1))
+    (grown-all _ _ _ _ (p .put-bad-line2 .ensures))
 
--- the script after its first line, where the line of the calls was found
-abbrev text : tie.After-table → List ℕ
-text c =
-    let d = c .before .before .before .before .before in
-    let s = script d in
-    let a = d .cores .given .0 .1 .0 in
-    take (length s - a) (drop a s)
-
--- the first line lies within the script
-head : (c : tie.After-cores) → Within (length (script c)) (c .cores .given .0 .1 .0)
-head c = number-within _ _ _ _ (c .before .before .numbered-line .ensures) (c .cores .given .1)
-
--- the table and the calls lie within what follows it
-found : (c : tie.After-table) → Begins (length (text c)) (c .table .given .0 .0) (c .table .given .0 .1 .0) (c .table .given .0 .1 .1 .0)
-found c = start-within _ _ _ _ _ (c .before .before .find-calls .ensures) (c .table .given .1)
+add-text : tie.Need-add-text
+add-text c = search needs
 
 sub-text : tie.Need-sub-text
-sub-text c = head (c .before) .fits
+sub-text c = search needs
 
 part-text-start : tie.Need-part-text-start
-part-text-start c = head (c .before) .fits
+part-text-start c = search needs
 
 part-text-end : tie.Need-part-text-end
 part-text-end c = search needs
@@ -69,8 +136,13 @@ find-calls-requires c κs = search needs
 enum-known-line : tie.Need-enum-known-line
 enum-known-line c = search needs
 
-put-bad-line-requires-2 : tie.Need-put-bad-line-requires-2
-put-bad-line-requires-2 c κs = search needs
+put-bad-line-requires-3 : tie.Need-put-bad-line-requires-3
+put-bad-line-requires-3 c κs =
+    let l = c .before .before in
+    let f = l .before .before in
+    let e = line-of (cores-of f) in
+    let m = missing-few _ _ (sym (f .find-calls .ensures) ∙ l .line .given .1) in
+    (omega arith, omega (arith, text-few e))
 
 enum-known-table : tie.Need-enum-known-table
 enum-known-table c = search needs
@@ -89,39 +161,66 @@ part-run-end c = search needs
 
 run-requires : tie.Need-run-requires
 run-requires c κs =
-    let d = c .before .before .before .before in
-    let e = d .before .before .before .before .before in
-    omega (arith, found d .lines, part-length (script e) (e .cores .given .0 .1 .0), part-length (text d) (d .table .given .0 .1 .0))
+    let t = c .before .before .before .before in
+    let e = line-of (cores-of (t .before .before)) in
+    let n = text-few e in
+    let w = found t in
+    (omega (arith, rest-length (text e) (t .table .given .0 .1 .0)), omega (arith, w .few), search needs)
 
-returns-3 : tie.Need-returns-3
-returns-3 c = search needs
+same-length-4 : tie.Need-same-length-4
+same-length-4 c = search needs
 
 returns-4 : tie.Need-returns-4
-returns-4 c = search needs
+unfolding printedAfterCores
+returns-4 c =
+    let p = c .before .before in
+    let l = p .before .before .before in
+    rw (printed-is (l .before .before) _ (l .line .given .1)) (grown-all _ _ _ _ (p .put-bad-line3 .ensures))
+
+same-length-5 : tie.Need-same-length-5
+same-length-5 c = search needs
+
+returns-5 : tie.Need-returns-5
+unfolding printedAfterCores
+returns-5 c =
+    let r = c .before .before in
+    let t = r .before .before .before .before .before in
+    let f = t .before .before in
+    rw (printed-is f _ (t .table .given .1)) (rw (part (text (line-of (cores-of f))) (t .table .given .0 .1 .0)) at (r .run .ensures))
 
 pub replay-spec : {M : Type 1} → statement M
 replay-spec =
     tie.close
     (tie.spec
     put-refused-requires
+    same-length
     returns
+    find-requires
+    put-bad-line-requires
+    same-length-2
+    returns-2
     slice-aggregate-numbered-line
+    slice-aggregate-numbered-line-2
     numbered-line-requires
     enum-known-cores
     enum-told
-    put-bad-line-requires
-    returns-2
+    put-bad-line-requires-2
+    same-length-3
+    returns-3
+    add-text
     sub-text
     part-text-start
     part-text-end
     find-calls-requires
     enum-known-line
-    put-bad-line-requires-2
+    put-bad-line-requires-3
     enum-known-table
     slice-aggregate-run
     sub-run
     part-run-start
     part-run-end
     run-requires
-    returns-3
-    returns-4)
+    same-length-4
+    returns-4
+    same-length-5
+    returns-5)

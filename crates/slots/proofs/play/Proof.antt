@@ -1,24 +1,48 @@
--- `play` is safe and ends: its counter stays within the slots.
-use Prim.Native.Nat.{_-_, _≤_}
+-- `play` is safe and ends: a turn looks at one task more, or plays one slot more.
+use Prim.Native.Nat.{_+_, _-_, _*_, _≤_}
 use native.Mathlib.Omega.{arith}
 use borrow.Author.Needs.{needs}
 use Rattle.slots.proofs.play.Statement.{statement}
 use Rattle.slots.proofs.play.Tie as tie
 
 abbrev Inv-loop : tie.InvT-loop
-Inv-loop count slots after₀ sum₀ number₀ after sum number = number ≤ slots
+Inv-loop count slots after₀ sum₀ number₀ next₀ after sum number next = (number ≤ slots) × (next ≤ count)
 
 abbrev μ-loop : tie.MeasureT-loop
-μ-loop count slots after₀ sum₀ number₀ after sum number = slots - number
+μ-loop count slots after₀ sum₀ number₀ next₀ after sum number next = 33 * (slots - number) + (count - next)
 
 loop-holds : tie.Need-loop-holds Inv-loop μ-loop
 loop-holds c = omega arith
 
-add-number : tie.Need-add-number Inv-loop μ-loop
-add-number c = omega arith
+mul-job : tie.Need-mul-job Inv-loop μ-loop
+mul-job c = omega arith
 
-with-releases-requires : tie.Need-with-releases-requires Inv-loop μ-loop
-with-releases-requires c κs = search needs
+element-copy-out-job : tie.Need-element-copy-out-job Inv-loop μ-loop
+element-copy-out-job c = omega arith
+
+add-next : tie.Need-add-next Inv-loop μ-loop
+add-next c = omega arith
+
+may-release-requires : tie.Need-may-release-requires Inv-loop μ-loop
+may-release-requires c κs = search needs
+
+cast-release : tie.Need-cast-release Inv-loop μ-loop
+cast-release c = omega arith
+
+release-requires : tie.Need-release-requires Inv-loop μ-loop
+release-requires c κs = search needs
+
+loop-less : tie.Need-loop-less Inv-loop μ-loop
+loop-less c = omega arith
+
+loop-again : tie.Need-loop-again Inv-loop μ-loop
+loop-again c = omega arith
+
+loop-less-2 : tie.Need-loop-less-2 Inv-loop μ-loop
+loop-less-2 c = omega arith
+
+loop-again-2 : tie.Need-loop-again-2 Inv-loop μ-loop
+loop-again-2 c = omega arith
 
 slot-requires : tie.Need-slot-requires Inv-loop μ-loop
 slot-requires c κs = search needs
@@ -26,11 +50,14 @@ slot-requires c κs = search needs
 with-report-requires : tie.Need-with-report-requires Inv-loop μ-loop
 with-report-requires c κs = search needs
 
-loop-less : tie.Need-loop-less Inv-loop μ-loop
-loop-less c = omega arith
+add-number : tie.Need-add-number Inv-loop μ-loop
+add-number c = omega arith
 
-loop-again : tie.Need-loop-again Inv-loop μ-loop
-loop-again c = omega arith
+loop-less-3 : tie.Need-loop-less-3 Inv-loop μ-loop
+loop-less-3 c = omega arith
+
+loop-again-3 : tie.Need-loop-again-3 Inv-loop μ-loop
+loop-again-3 c = omega arith
 
 returns : tie.Need-returns Inv-loop μ-loop
 returns c = search needs
@@ -42,10 +69,19 @@ play-spec =
     Inv-loop
     μ-loop
     loop-holds
-    add-number
-    with-releases-requires
-    slot-requires
-    with-report-requires
+    mul-job
+    element-copy-out-job
+    add-next
+    may-release-requires
+    cast-release
+    release-requires
     loop-less
     loop-again
+    loop-less-2
+    loop-again-2
+    slot-requires
+    with-report-requires
+    add-number
+    loop-less-3
+    loop-again-3
     returns)

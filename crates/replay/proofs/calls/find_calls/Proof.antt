@@ -1,23 +1,23 @@
--- `find_calls` meets its contract. The invariant: each line so far has at least one byte.
-use Prim.Native.Nat.{ℕ, _+_, _-_, _≤_}
+-- `find_calls` meets its contract. The invariant: the line CALLS is none of the lines so far.
+use Prim.Native.Nat.{_+_, _-_, _≤_}
+use native.Mathlib.Nat.{le-of-lt}
 use native.Mathlib.Omega.{arith}
 use mathlib.Core.Path.{_≡_, sym, _∙_}
-use mathlib.Core.List.{List}
 use borrow.Author.Needs.{needs}
 use lib.ListN.{length}
-use Rattle.replay.proofs.WordLaws.{not-longer}
-use Rattle.replay.proofs.BoundLaws.{part-length}
+use lib.Seq.{length-take-le}
+use Rattle.replay.proofs.CallLaws.{Looking, looking-none, looked-all, not-ended, line-fits, looked-here, looking-more}
 use Rattle.replay.proofs.calls.find_calls.Statement.{statement}
 use Rattle.replay.proofs.calls.find_calls.Tie as tie
 
 abbrev Inv-loop : tie.InvT-loop
-Inv-loop text at₀ line₀ t6 at line = (at ≤ length text) × ((line ≤ at + 2) × (length t6 ≡ 6))
+Inv-loop text at₀ line₀ t7 at line = Looking text at line × (length t7 ≡ 5)
 
 abbrev μ-loop : tie.MeasureT-loop
-μ-loop text at₀ line₀ t6 at line = length text - at
+μ-loop text at₀ line₀ t7 at line = length text - at
 
 loop-holds : tie.Need-loop-holds Inv-loop μ-loop
-loop-holds c = omega arith
+loop-holds c = (looking-none _, search needs)
 
 sub-rest : tie.Need-sub-rest Inv-loop μ-loop
 sub-rest c = search needs
@@ -28,63 +28,58 @@ part-rest-start c = search needs
 part-rest-end : tie.Need-part-rest-end Inv-loop μ-loop
 part-rest-end c = search needs
 
-slice-aggregate-begins-with : tie.Need-slice-aggregate-begins-with Inv-loop μ-loop
-slice-aggregate-begins-with c = search needs
-
-begins-with-requires : tie.Need-begins-with-requires Inv-loop μ-loop
-begins-with-requires c κs = search needs
-
-abbrev text : tie.At-loop Inv-loop μ-loop → List ℕ
-text c = c .before .before .args .text .now
-
--- a line CALLS lies within the text
-word-fits :
-    (c : tie.Then1 Inv-loop μ-loop) → let d = c .before .before .before .before .before in d .loop .at + 6 ≤ length (text d)
-word-fits c =
-    let d = c .before .before .before .before .before in
-    let w = not-longer _ _ (sym (c .before .begins-with .ensures) ∙ c .if1 .taken) in
-    omega (arith, d .loop .inv, w, part-length (text d) (d .loop .at))
-
-add-t14 : tie.Need-add-t14 Inv-loop μ-loop
-add-t14 c = omega (arith, word-fits c)
-
-add-t15 : tie.Need-add-t15 Inv-loop μ-loop
-add-t15 c = omega arith
-
-returns : tie.Need-returns Inv-loop μ-loop
-returns c = record { ends = omega arith; starts = omega (arith, word-fits c); lines = omega arith }
-
 find-requires : tie.Need-find-requires Inv-loop μ-loop
 find-requires c κs = search needs
 
+returns : tie.Need-returns Inv-loop μ-loop
+returns c =
+    let d = c .before .before .before .before in
+    not-ended _ _ _ (d .loop .inv .0) _ (c .before .find .ensures) (c .if1 .taken)
+
+-- the line with its byte 10 lies within the text
+abbrev at-line : tie.Else1 Inv-loop μ-loop → tie.At-loop Inv-loop μ-loop
+at-line c = c .before .before .before .before
+
+fits :
+    (c : tie.Else1 Inv-loop μ-loop) → at-line c .loop .at + c .before .find .result + 1 ≤ length (at-line c .before .before .args .text .now)
+fits c = line-fits _ _ _ (at-line c .loop .inv .0) _ (c .before .find .ensures) (c .if1 .left)
+
+add-next : tie.Need-add-next Inv-loop μ-loop
+add-next c = omega (arith, fits c)
+
+add-next-2 : tie.Need-add-next-2 Inv-loop μ-loop
+add-next-2 c = omega (arith, fits c)
+
+slice-aggregate-same : tie.Need-slice-aggregate-same Inv-loop μ-loop
+slice-aggregate-same c = sym (length-take-le _ _ (le-of-lt (c .before .if1 .left)))
+
+slice-aggregate-same-2 : tie.Need-slice-aggregate-same-2 Inv-loop μ-loop
+slice-aggregate-same-2 c = search needs
+
+same-requires : tie.Need-same-requires Inv-loop μ-loop
+same-requires c κs = search needs
+
+add-t17 : tie.Need-add-t17 Inv-loop μ-loop
+add-t17 c = omega arith
+
 returns-2 : tie.Need-returns-2 Inv-loop μ-loop
-returns-2 c = tt
-
--- so does another line with its byte 10
-line-fits :
-    (c : tie.Else2 Inv-loop μ-loop)
-    → let d = c .before .before .before .before .before .before .before in d .loop .at + (c .before .find .result + 1) ≤ length (text d)
-line-fits c =
-    let d = c .before .before .before .before .before .before .before in
-    omega (arith, c .if2 .left, part-length (text d) (d .loop .at))
-
-add-at : tie.Need-add-at Inv-loop μ-loop
-add-at c = omega (arith, line-fits c)
-
-add-at-2 : tie.Need-add-at-2 Inv-loop μ-loop
-add-at-2 c = omega (arith, line-fits c)
+returns-2 c =
+    let e = c .before .before .before .before in
+    looked-here _ _ _ (at-line e .loop .inv .0) _ (e .before .find .ensures) (e .if1 .left) (sym (c .before .same .ensures) ∙ c .if2 .taken)
 
 add-line : tie.Need-add-line Inv-loop μ-loop
 add-line c = omega arith
 
 loop-less : tie.Need-loop-less Inv-loop μ-loop
-loop-less c = omega (arith, line-fits c)
+loop-less c = omega (arith, fits (c .before .before .before .before))
 
 loop-again : tie.Need-loop-again Inv-loop μ-loop
-loop-again c = omega (arith, line-fits c)
+loop-again c =
+    let e = c .before .before .before .before in
+    (looking-more _ _ _ (at-line e .loop .inv .0) _ (e .before .find .ensures) (e .if1 .left) (sym (c .before .same .ensures) ∙ c .if2 .left), search needs)
 
 returns-3 : tie.Need-returns-3 Inv-loop μ-loop
-returns-3 c = tt
+returns-3 c = looked-all _ _ _ (c .before .loop .inv .0) (c .loop-test .left)
 
 pub find-calls-spec : {M : Type 1} → statement M
 find-calls-spec =
@@ -96,15 +91,15 @@ find-calls-spec =
     sub-rest
     part-rest-start
     part-rest-end
-    slice-aggregate-begins-with
-    begins-with-requires
-    add-t14
-    add-t15
-    returns
     find-requires
+    returns
+    add-next
+    add-next-2
+    slice-aggregate-same
+    slice-aggregate-same-2
+    same-requires
+    add-t17
     returns-2
-    add-at
-    add-at-2
     add-line
     loop-less
     loop-again

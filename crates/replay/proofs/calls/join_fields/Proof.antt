@@ -1,16 +1,92 @@
--- `join_fields` meets its contract: each number fits what follows the one before.
-use Prim.Native.Nat.{ℕ, _+_, _-_}
-use native.Mathlib.Omega.{arith}
+-- `join_fields` meets its contract: two spaces are found, and the three fields that they leave are read.
+use Prim.Native.Nat.{ℕ}
+use native.Mathlib.Nat.{le-of-lt}
+use mathlib.Core.Path.{_≡_, sym, _∙_}
 use mathlib.Core.List.{List}
 use borrow.Author.Needs.{needs}
-use lib.ListN.{length, take, drop}
-use Rattle.replay.specs.Bounds.{Within}
-use Rattle.replay.proofs.BoundLaws.{part-length, number-within, number-rest}
+use lib.ListN.{take}
+use lib.Seq.{length-take-le}
+use Rattle.reader.proofs.NamesLine.{past}
+use Rattle.replay.specs.declared.numbers.Number.the-variants.{Read}
+use Rattle.replay.specs.Numbers.{numberOf}
+use Rattle.replay.specs.Calls.{joinOfThree, joinOf}
+use Rattle.replay.proofs.CallLaws.{no-space, one-space, three-fields}
 use Rattle.replay.proofs.calls.join_fields.Statement.{statement}
 use Rattle.replay.proofs.calls.join_fields.Tie as tie
 
-number-before-requires : tie.Need-number-before-requires
-number-before-requires c κs = search needs
+-- the fields, where both spaces were found, and the places of the spaces
+abbrev fields : tie.Else2 → List ℕ
+fields c = c .before .before .before .before .before .before .args .fields .now
+
+abbrev first : tie.Else2 → ℕ
+first c = c .before .before .before .before .find .result
+
+abbrev second : tie.Else2 → ℕ
+second c = c .before .find2 .result
+
+three :
+    (c : tie.Else2)
+    → joinOf (fields c)
+    ≡ joinOfThree (numberOf (take (first c) (fields c))) (numberOf (take (second c) (past (fields c) (first c))))
+    (numberOf (past (past (fields c) (first c)) (second c)))
+three c =
+    let e = c .before .before .before in
+    three-fields _ _ (e .before .find .ensures) (e .if1 .left) _ (c .before .find2 .ensures) (c .if2 .left)
+
+-- the numbers that were read
+abbrev spaces : tie.After-period → tie.Else2
+spaces c = c .before .before .before .before
+
+period-is : (c : tie.After-period) → let d = spaces c in numberOf (take (first d) (fields d)) ≡ Read (c .period .given .0 .0)
+period-is c = sym (c .before .before .number-of .ensures) ∙ c .period .given .1
+
+abbrev at-period : tie.After-budget → tie.After-period
+at-period c = c .before .before .before .before .before
+
+budget-is :
+    (c : tie.After-budget)
+    → let d = spaces (at-period c) in numberOf (take (second d) (past (fields d) (first d))) ≡ Read (c .budget .given .0 .0)
+budget-is c = sym (c .before .before .number-of2 .ensures) ∙ c .budget .given .1
+
+abbrev at-budget : tie.After-deadline → tie.After-budget
+at-budget c = c .before .before .before .before .before
+
+deadline-is :
+    (c : tie.After-deadline)
+    → let d = spaces (at-period (at-budget c)) in numberOf (past (past (fields d) (first d)) (second d)) ≡ Read (c .deadline .given .0 .0)
+deadline-is c = sym (c .before .before .number-of3 .ensures) ∙ c .deadline .given .1
+
+find-requires : tie.Need-find-requires
+find-requires c κs = search needs
+
+returns : tie.Need-returns
+returns c = no-space _ _ (c .before .find .ensures) (c .if1 .taken)
+
+add-rest : tie.Need-add-rest
+add-rest c = search needs
+
+sub-rest : tie.Need-sub-rest
+sub-rest c = search needs
+
+part-rest-start : tie.Need-part-rest-start
+part-rest-start c = search needs
+
+part-rest-end : tie.Need-part-rest-end
+part-rest-end c = search needs
+
+find-requires-2 : tie.Need-find-requires-2
+find-requires-2 c κs = search needs
+
+returns-2 : tie.Need-returns-2
+returns-2 c =
+    let e = c .before .before .before in
+    one-space _ _ (e .before .find .ensures) (e .if1 .left) _ (c .before .find2 .ensures) (c .if2 .taken)
+
+slice-aggregate-number-of : tie.Need-slice-aggregate-number-of
+slice-aggregate-number-of c = sym (length-take-le _ _ (le-of-lt (c .before .before .before .before .if1 .left)))
+
+number-of-requires : tie.Need-number-of-requires
+number-of-requires c κs = search needs
 
 enum-known-period : tie.Need-enum-known-period
 enum-known-period c = search needs
@@ -18,69 +94,17 @@ enum-known-period c = search needs
 enum-told : tie.Need-enum-told
 enum-told c = search needs
 
-returns : tie.Need-returns
-returns c = tt
+returns-3 : tie.Need-returns-3
+unfolding joinOfThree
+returns-3 c =
+    let d = c .before .before in
+    sym (three (d .before .before) ∙ rw (sym (d .number-of .ensures) ∙ c .enum-told .given .1))
 
--- the place where the second number was read, from that of the third; the first's, from that of the second
-abbrev second-place : tie.After-deadline → tie.After-budget
-second-place c = c .before .before .before .before .before
+slice-aggregate-number-of-2 : tie.Need-slice-aggregate-number-of-2
+slice-aggregate-number-of-2 c = sym (length-take-le _ _ (le-of-lt (spaces (c .before .before) .if2 .left)))
 
-abbrev first-place : tie.After-budget → tie.After-period
-first-place c = c .before .before .before .before .before
-
-abbrev text : tie.After-period → List ℕ
-text c = c .before .before .before .before .args .text .now
-
--- the lengths that were read there
-abbrev length₁ : tie.After-period → ℕ
-length₁ c = c .period .given .0 .1 .0
-
-abbrev length₂ : tie.After-budget → ℕ
-length₂ c = c .budget .given .0 .1 .0
-
-abbrev length₃ : tie.After-deadline → ℕ
-length₃ c = c .deadline .given .0 .1 .0
-
--- each number lies within what follows the one before
-within₁ : (c : tie.After-period) → Within (length (text c)) (length₁ c)
-within₁ c = number-within _ _ _ _ (c .before .before .number-before .ensures) (c .period .given .1)
-
-abbrev rest : tie.After-budget → List ℕ
-rest c =
-    let s = text (first-place c) in
-    let a = length₁ (first-place c) in
-    take (length s - a) (drop a s)
-
-within₂ : (c : tie.After-budget) → Within (length (rest c)) (length₂ c)
-within₂ c = number-within _ _ _ _ (c .before .before .number-before2 .ensures) (c .budget .given .1)
-
-within₃ : (c : tie.After-deadline) → Within (length (rest (second-place c)) - length₂ (second-place c)) (length₃ c)
-within₃ c =
-    number-rest (rest (second-place c)) (length₂ (second-place c)) _ _ _ (c .before .before .number-before3 .ensures)
-    (c .deadline .given .1)
-
-all-within :
-    (c : tie.After-deadline) → let d = second-place c in let e = first-place d in Within (length (text e)) (length₁ e + length₂ d + length₃ c)
-all-within c =
-    let d = second-place c in
-    let e = first-place d in
-    let w₁ = within₁ e in
-    let w₂ = within₂ d in
-    let w₃ = within₃ c in
-    let l = part-length (text e) (length₁ e) in
-    record { some = omega (arith, w₁ .some); fits = omega (arith, w₁ .fits, w₂ .fits, w₃ .fits, l) }
-
-sub-rest : tie.Need-sub-rest
-sub-rest c = within₁ (c .before) .fits
-
-part-rest-start : tie.Need-part-rest-start
-part-rest-start c = within₁ (c .before) .fits
-
-part-rest-end : tie.Need-part-rest-end
-part-rest-end c = search needs
-
-number-before-requires-2 : tie.Need-number-before-requires-2
-number-before-requires-2 c κs = search needs
+number-of-requires-2 : tie.Need-number-of-requires-2
+number-of-requires-2 c κs = search needs
 
 enum-known-budget : tie.Need-enum-known-budget
 enum-known-budget c = search needs
@@ -88,20 +112,27 @@ enum-known-budget c = search needs
 enum-told-2 : tie.Need-enum-told-2
 enum-told-2 c = search needs
 
-returns-2 : tie.Need-returns-2
-returns-2 c = tt
+returns-4 : tie.Need-returns-4
+unfolding joinOfThree
+returns-4 c =
+    let d = c .before .before in
+    let p = d .before .before .before in
+    sym (three (spaces p) ∙ rw (period-is p, sym (d .number-of2 .ensures) ∙ c .enum-told2 .given .1))
 
-sub-last : tie.Need-sub-last
-sub-last c = within₂ (c .before) .fits
+add-number-of : tie.Need-add-number-of
+add-number-of c = search needs
 
-part-last-start : tie.Need-part-last-start
-part-last-start c = within₂ (c .before) .fits
+sub-number-of : tie.Need-sub-number-of
+sub-number-of c = search needs
 
-part-last-end : tie.Need-part-last-end
-part-last-end c = search needs
+part-number-of-start : tie.Need-part-number-of-start
+part-number-of-start c = search needs
 
-number-before-requires-3 : tie.Need-number-before-requires-3
-number-before-requires-3 c κs = search needs
+part-number-of-end : tie.Need-part-number-of-end
+part-number-of-end c = search needs
+
+number-of-requires-3 : tie.Need-number-of-requires-3
+number-of-requires-3 c κs = search needs
 
 enum-known-deadline : tie.Need-enum-known-deadline
 enum-known-deadline c = search needs
@@ -109,40 +140,50 @@ enum-known-deadline c = search needs
 enum-told-3 : tie.Need-enum-told-3
 enum-told-3 c = search needs
 
-returns-3 : tie.Need-returns-3
-returns-3 c = tt
+returns-5 : tie.Need-returns-5
+unfolding joinOfThree
+returns-5 c =
+    let d = c .before .before in
+    let b = d .before .before .before in
+    let p = at-period b in
+    sym (three (spaces p) ∙ rw (period-is p, budget-is b, sym (d .number-of3 .ensures) ∙ c .enum-told3 .given .1))
 
-add-length : tie.Need-add-length
-add-length c = omega (arith, all-within (c .before))
-
-add-length-2 : tie.Need-add-length-2
-add-length-2 c = omega (arith, all-within (c .before))
-
-returns-4 : tie.Need-returns-4
-returns-4 c = all-within (c .before)
+returns-6 : tie.Need-returns-6
+unfolding joinOfThree
+returns-6 c =
+    let d = c .before in
+    let b = at-budget d in
+    let p = at-period b in
+    sym (three (spaces p) ∙ rw (period-is p, budget-is b, deadline-is d))
 
 pub join-fields-spec : {M : Type 1} → statement M
 join-fields-spec =
     tie.close
     (tie.spec
-    number-before-requires
-    enum-known-period
-    enum-told
+    find-requires
     returns
+    add-rest
     sub-rest
     part-rest-start
     part-rest-end
-    number-before-requires-2
+    find-requires-2
+    returns-2
+    slice-aggregate-number-of
+    number-of-requires
+    enum-known-period
+    enum-told
+    returns-3
+    slice-aggregate-number-of-2
+    number-of-requires-2
     enum-known-budget
     enum-told-2
-    returns-2
-    sub-last
-    part-last-start
-    part-last-end
-    number-before-requires-3
+    returns-4
+    add-number-of
+    sub-number-of
+    part-number-of-start
+    part-number-of-end
+    number-of-requires-3
     enum-known-deadline
     enum-told-3
-    returns-3
-    add-length
-    add-length-2
-    returns-4)
+    returns-5
+    returns-6)

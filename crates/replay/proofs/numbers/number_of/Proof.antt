@@ -17,13 +17,13 @@ returns : tie.Need-returns Inv-loop μ-loop
 returns c = empty _ (c .if1 .taken)
 
 returns-2 : tie.Need-returns-2 Inv-loop μ-loop
-returns-2 c = long _ (c .if2 .taken)
+returns-2 c = long _ (omega (arith, c .if2 .taken))
 
 shared-slice-read-if3 : tie.Need-shared-slice-read-if3 Inv-loop μ-loop
 shared-slice-read-if3 c = omega arith
 
 returns-3 : tie.Need-returns-3 Inv-loop μ-loop
-returns-3 c = leading _ (c .before .if3 .taken) (c .if4 .taken)
+returns-3 c = leading _ (c .before .if3 .taken) (omega (arith, c .if4 .taken))
 
 loop-holds : tie.Need-loop-holds Inv-loop μ-loop
 loop-holds c = scanned-none _
@@ -71,7 +71,7 @@ returns-7 : tie.Need-returns-7 Inv-loop μ-loop
 returns-7 c =
     let d = c .before .before in
     complete _ _ _ (d .loop .inv) (c .before .loop-test .left) (omega arith) (omega arith)
-    (⊎-elim (λ w. one-digit _ (w .1 .left)) (λ w. other-digit _ (w .left)) (d .before .if3 .came))
+    (⊎-elim (λ w. one-digit _ (omega (arith, w .1 .left))) (λ w. other-digit _ (w .left)) (d .before .if3 .came))
     (omega arith)
 
 pub number-of-spec : {M : Type 1} → statement M

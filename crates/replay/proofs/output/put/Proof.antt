@@ -1,32 +1,33 @@
--- `put` is safe and ends: the buffer never holds more than it has room for.
-use Prim.Native.Nat.{_-_, _≤_}
+-- `put` meets its contract. The invariant: the array has grown by the bytes so far.
+use Prim.Native.Nat.{_+_, _-_, _≤_, _<_}
+use native.Mathlib.Numerals.{add-one}
 use native.Mathlib.Omega.{arith}
-use mathlib.Core.Logic.{⊎-elim}
-use borrow.Author.Needs.{needs}
-use lib.ListN.{length}
+use mathlib.Core.Path.{_≡_, refl}
+use lib.ListN.{length, take, length-set}
+use lib.Seq.{take-suc, take-length}
+use Rattle.replay.specs.Grown.{Grown}
+use Rattle.replay.proofs.Growing.{grown-none, grown-byte, grown-more}
 use Rattle.replay.proofs.output.put.Statement.{statement}
 use Rattle.replay.proofs.output.put.Tie as tie
 
 abbrev Inv-loop : tie.InvT-loop
-Inv-loop buffer₀ used text at₀ i₀ buffer at i = (i ≤ length text) × (at ≤ 4096)
+Inv-loop output₀ used text at₀ i₀ output at i =
+    (i ≤ length text) × (length output ≡ length output₀) × (at ≡ used + i) × Grown output₀ used (take i text) output at
 
 abbrev μ-loop : tie.MeasureT-loop
-μ-loop buffer₀ used text at₀ i₀ buffer at i = length text - i
+μ-loop output₀ used text at₀ i₀ output at i = length text - i
 
 loop-holds : tie.Need-loop-holds Inv-loop μ-loop
-loop-holds c = omega arith
+loop-holds c = (omega arith, refl, omega arith, grown-none _ _)
 
-write-all-requires : tie.Need-write-all-requires Inv-loop μ-loop
-write-all-requires c κs = search needs
+shared-slice-read-output : tie.Need-shared-slice-read-output Inv-loop μ-loop
+shared-slice-read-output c = omega arith
 
-shared-slice-read-buffer : tie.Need-shared-slice-read-buffer Inv-loop μ-loop
-shared-slice-read-buffer c = omega arith
-
-element-write-buffer : tie.Need-element-write-buffer Inv-loop μ-loop
-element-write-buffer c = ⊎-elim (λ w. omega arith) (λ w. omega arith) (c .before .if1 .came)
+slice-write-output : tie.Need-slice-write-output Inv-loop μ-loop
+slice-write-output c = omega arith
 
 add-at : tie.Need-add-at Inv-loop μ-loop
-add-at c = ⊎-elim (λ w. omega arith) (λ w. omega arith) (c .before .before .if1 .came)
+add-at c = omega arith
 
 add-i : tie.Need-add-i Inv-loop μ-loop
 add-i c = omega arith
@@ -35,10 +36,25 @@ loop-less : tie.Need-loop-less Inv-loop μ-loop
 loop-less c = omega arith
 
 loop-again : tie.Need-loop-again Inv-loop μ-loop
-loop-again c = ⊎-elim (λ w. omega arith) (λ w. omega arith) (c .before .before .if1 .came)
+loop-again c =
+    let l = c .before .before in
+    let text = l .before .args .text .now in
+    let h : l .loop .at < length (l .loop .output) = omega arith in (
+      omega arith,
+      simp length-set (l .loop .inv .1),
+      omega arith,
+      rw (add-one (l .loop .i), take-suc text (l .loop .i) 0 (c .before .loop-test .taken))
+          (grown-more _ _ _ _ _ _ _ _ (l .loop .inv .3) (grown-byte _ _ _ h)),
+    )
+
+same-length : tie.Need-same-length Inv-loop μ-loop
+same-length c = c .before .loop .inv .1
 
 returns : tie.Need-returns Inv-loop μ-loop
-returns c = omega arith
+returns c =
+    let text = c .before .before .args .text .now in
+    let e : c .before .loop .i ≡ length text = omega arith in
+    rw (e, take-length text) at (c .before .loop .inv .3)
 
 pub put-spec : {M : Type 1} → statement M
 put-spec =
@@ -47,11 +63,11 @@ put-spec =
     Inv-loop
     μ-loop
     loop-holds
-    write-all-requires
-    shared-slice-read-buffer
-    element-write-buffer
+    shared-slice-read-output
+    slice-write-output
     add-at
     add-i
     loop-less
     loop-again
+    same-length
     returns)

@@ -1,32 +1,70 @@
--- `pick` meets its contract. The invariant: the picks so far.
-use Prim.Native.Nat.{_-_, _≤_}
+-- `Machine::pick` meets its contract. The invariant: the picks so far, and the ranks of the tasks that still wait.
+use Prim.Native.Nat.{_-_, _≤_, _<_}
 use native.Mathlib.Numerals.{add-one}
 use native.Mathlib.Omega.{arith}
-use mathlib.Core.Path.{_≡_, refl, _∙_}
+use mathlib.Core.Path.{_≡_, refl, sym, ap, _∙_}
 use borrow.Author.Needs.{needs}
-use Rattle.machine.specs.Pick.{pick}
-use Rattle.machine.proofs.PickLaws.{next-in}
+use lib.ListN.{length, take}
+use lib.Seq.{length-take-le}
+use Rattle.machine.specs.Pick.{nextRunner, pick}
+use Rattle.machine.specs.Rank.{ranks}
+use Rattle.machine.proofs.SoundLaws.{sound-passes}
+use Rattle.machine.proofs.PickLaws.{length-pick, next-in}
+use Rattle.machine.proofs.RankLaws.{length-ranks, ranks-picked}
 use Rattle.machine.proofs.job.Machine.pick.Statement.{statement}
 use Rattle.machine.proofs.job.Machine.pick.Tie as tie
 
 abbrev Inv-loop : tie.InvT-loop
-Inv-loop self wanted picked₀ found₀ picked found = (found ≤ wanted) × (picked ≡ pick self found)
+Inv-loop self wanted waiting₀ picked₀ found₀ waiting picked found =
+    (found ≤ wanted) × (picked ≡ pick self found) × (waiting ≡ ranks self (pick self found))
 
 abbrev μ-loop : tie.MeasureT-loop
-μ-loop self wanted picked₀ found₀ picked found = wanted - found
+μ-loop self wanted waiting₀ picked₀ found₀ waiting picked found = wanted - found
+
+fits : (c : tie.Start Inv-loop μ-loop) → c .args .self .table .count ≤ 32
+fits c = sound-passes (c .args .self) (c .pre .0) .count-fits
+
+-- every task has its rank
+has-all : (c : tie.At-loop Inv-loop μ-loop) → c .before .args .self .table .count ≤ length (c .loop .waiting)
+has-all c =
+    let m = c .before .args .self in
+    omega (arith, fits (c .before), ap length (c .loop .inv .2), length-ranks m (pick m (c .loop .found)))
+
+-- the task found is the next runner, one of the table
+is-next : (c : tie.After-next-runner Inv-loop μ-loop) →
+    let l = c .before .before .before in
+    c .next-runner .result ≡ nextRunner (l .before .args .self) (pick (l .before .args .self) (l .loop .found))
+is-next c =
+    let l = c .before .before .before in
+    let m = l .before .args .self in
+    c .next-runner .ensures m (pick m (l .loop .found)) (l .before .pre .0) (ap (take (m .table .count)) (l .loop .inv .2))
+
+inside : (c : tie.After-next-runner Inv-loop μ-loop) → c .next-runner .result < c .before .before .before .before .args .self .table .count
+inside c =
+    let l = c .before .before .before in
+    rw (is-next c) (next-in (l .before .args .self) (fits (l .before)) (l .loop .found) (omega arith))
 
 loop-holds : tie.Need-loop-holds Inv-loop μ-loop
 unfolding pick
-loop-holds c = (omega arith, refl)
+loop-holds c = (omega arith, refl, c .pre .1)
+
+array-share-prefix-waiting : tie.Need-array-share-prefix-waiting Inv-loop μ-loop
+array-share-prefix-waiting c = has-all (c .before)
+
+slice-aggregate-next-runner : tie.Need-slice-aggregate-next-runner Inv-loop μ-loop
+slice-aggregate-next-runner c = sym (length-take-le _ _ (has-all (c .before .before)))
 
 next-runner-requires : tie.Need-next-runner-requires Inv-loop μ-loop
 next-runner-requires c κs = search needs
 
 array-write-picked : tie.Need-array-write-picked Inv-loop μ-loop
-array-write-picked c =
-    let l = c .before .before in
-    rw (c .next-runner .ensures, l .loop .inv .1)
-    (omega (arith, next-in (l .before .args .self) (omega arith) (l .loop .found) (omega arith)))
+array-write-picked c = omega (arith, inside c, fits (c .before .before .before .before))
+
+mul-waiting : tie.Need-mul-waiting Inv-loop μ-loop
+mul-waiting c = omega (arith, inside c, fits (c .before .before .before .before))
+
+array-write-waiting : tie.Need-array-write-waiting Inv-loop μ-loop
+array-write-waiting c = omega (arith, inside c, fits (c .before .before .before .before))
 
 add-found : tie.Need-add-found Inv-loop μ-loop
 add-found c = omega arith
@@ -37,8 +75,14 @@ loop-less c = omega arith
 loop-again : tie.Need-loop-again Inv-loop μ-loop
 unfolding pick
 loop-again c =
-    let l = c .before .before in
-    (omega arith, rw (c .next-runner .ensures, l .loop .inv .1, add-one (l .loop .found)))
+    let l = c .before .before .before in
+    let m = l .before .args .self in
+    let k = l .loop .found in (
+      omega arith,
+      rw (add-one k, l .loop .inv .1, is-next c),
+      rw (add-one k, l .loop .inv .2, ← is-next c)
+          (ranks-picked m (pick m k) (c .next-runner .result) (omega (arith, inside c, fits (l .before), length-pick m k)) (inside c) (fits (l .before))),
+    )
 
 returns : tie.Need-returns Inv-loop μ-loop
 returns c =
@@ -53,8 +97,12 @@ pick-spec =
     Inv-loop
     μ-loop
     loop-holds
+    array-share-prefix-waiting
+    slice-aggregate-next-runner
     next-runner-requires
     array-write-picked
+    mul-waiting
+    array-write-waiting
     add-found
     loop-less
     loop-again

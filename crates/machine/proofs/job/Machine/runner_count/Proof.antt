@@ -1,12 +1,8 @@
--- `runner_count` meets its contract.
+-- `Machine::runner_count` meets its contract.
 use native.Mathlib.Omega.{arith}
-use borrow.Author.Needs.{needs}
 use Rattle.machine.specs.Pick.{runnerCount}
 use Rattle.machine.proofs.job.Machine.runner_count.Statement.{statement}
 use Rattle.machine.proofs.job.Machine.runner_count.Tie as tie
-
-open-count-requires : tie.Need-open-count-requires
-open-count-requires c κs = search needs
 
 returns : tie.Need-returns
 unfolding runnerCount
@@ -17,4 +13,4 @@ unfolding runnerCount
 returns-2 c = omega arith
 
 pub runner-count-spec : {M : Type 1} → statement M
-runner-count-spec = tie.close (tie.spec open-count-requires returns returns-2)
+runner-count-spec = tie.close (tie.spec returns returns-2)

@@ -1,0 +1,104 @@
+-- `add_parts` meets its contract. The invariant: the sums before k have their part, and the others are as they were.
+use Prim.Native.Nat.{_+_, _-_, _≤_}
+use native.Mathlib.Omega.{arith}
+use lib.ListN.{getD}
+use Rattle.judge.proofs.OwnPart.{part}
+use Rattle.judge.proofs.Turns.{Added, added-none, added-more}
+use Rattle.judge.proofs.sums.add_parts.Statement.{statement}
+use Rattle.judge.proofs.sums.add_parts.Tie as tie
+
+abbrev Inv-loop : tie.InvT-loop
+Inv-loop period budget budgets deadlines sums₀ count inverse k₀ sums k =
+    (k ≤ count) × Added 32 (λ j. part period budget (getD deadlines j 0) (getD budgets j 0)) sums₀ sums k
+
+abbrev μ-loop : tie.MeasureT-loop
+μ-loop period budget budgets deadlines sums₀ count inverse k₀ sums k = count - k
+
+inverse-of-requires : tie.Need-inverse-of-requires Inv-loop μ-loop
+inverse-of-requires c κs = omega arith
+
+loop-holds : tie.Need-loop-holds Inv-loop μ-loop
+loop-holds c = (omega arith, added-none 32 _ _ (c .before .pre .1 .0 .1))
+
+mul-window : tie.Need-mul-window Inv-loop μ-loop
+mul-window c = omega arith
+
+element-copy-out-window : tie.Need-element-copy-out-window Inv-loop μ-loop
+element-copy-out-window c = omega arith
+
+mul-spare : tie.Need-mul-spare Inv-loop μ-loop
+mul-spare c = omega arith
+
+element-copy-out-spare : tie.Need-element-copy-out-spare Inv-loop μ-loop
+element-copy-out-spare c = omega arith
+
+sub-spare : tie.Need-sub-spare Inv-loop μ-loop
+sub-spare c =
+    let l = c .before .before .before in
+    l .before .before .pre .1 .1 .0 (l .loop .k) (omega arith)
+
+mul-sums : tie.Need-mul-sums Inv-loop μ-loop
+mul-sums c = omega arith
+
+element-copy-out-sums : tie.Need-element-copy-out-sums Inv-loop μ-loop
+element-copy-out-sums c = omega arith
+
+part-of-requires : tie.Need-part-of-requires Inv-loop μ-loop
+part-of-requires c κs =
+    let l = c .before .before .before .before in
+    let p = l .before .before .pre in
+    omega (arith, p .0, p .1 .1 .1 .0 (l .loop .k) (omega arith), l .before .inverse-of .ensures)
+
+add-sums : tie.Need-add-sums Inv-loop μ-loop
+add-sums c =
+    let l = c .before .before .before .before .before in
+    let p = l .before .before .pre .1 .1 .1 in
+    let before = l .loop .inv .1 .left (l .loop .k) (omega arith) in
+    omega (arith, c .part-of .ensures, p .0 (l .loop .k) (omega arith), p .1 (l .loop .k) (omega arith))
+
+mul-sums-2 : tie.Need-mul-sums-2 Inv-loop μ-loop
+mul-sums-2 c = omega arith
+
+element-write-sums : tie.Need-element-write-sums Inv-loop μ-loop
+element-write-sums c = omega arith
+
+add-k : tie.Need-add-k Inv-loop μ-loop
+add-k c = omega arith
+
+loop-less : tie.Need-loop-less Inv-loop μ-loop
+loop-less c = omega arith
+
+loop-again : tie.Need-loop-again Inv-loop μ-loop
+loop-again c =
+    let l = c .before .before .before .before .before in
+    let v = getD (l .loop .sums) (l .loop .k) 0 + c .part-of .result in
+    (omega arith, added-more v (l .loop .inv .1) (omega arith) (omega (arith, c .part-of .ensures)))
+
+returns : tie.Need-returns Inv-loop μ-loop
+returns c =
+    let a = c .before .loop .inv .1 in
+    (a .done .size, λ k h. a .done .filled k (omega arith))
+
+pub add-parts-spec : {M : Type 1} → statement M
+add-parts-spec =
+    tie.close
+    (tie.spec
+    Inv-loop
+    μ-loop
+    inverse-of-requires
+    loop-holds
+    mul-window
+    element-copy-out-window
+    mul-spare
+    element-copy-out-spare
+    sub-spare
+    mul-sums
+    element-copy-out-sums
+    part-of-requires
+    add-sums
+    mul-sums-2
+    element-write-sums
+    add-k
+    loop-less
+    loop-again
+    returns)

@@ -1,0 +1,90 @@
+-- `window_sums` meets its contract. The invariant: each sum is taken over the tasks before i.
+use Prim.Native.Nat.{ℕ, _-_, _*_, _≤_, _<_, min}
+use native.Mathlib.Numerals.{add-one}
+use native.Mathlib.Omega.{arith}
+use mathlib.Core.Path.{_≡_, _∙_}
+use lib.ListN.{length, getD}
+use Rattle.edzl.specs.Window.{sumTo}
+use Rattle.edzl.proofs.SumLaws.{sum-bound}
+use Rattle.judge.proofs.OwnPart.{part}
+use Rattle.judge.proofs.sums.window_sums.Statement.{statement}
+use Rattle.judge.proofs.sums.window_sums.Tie as tie
+
+-- a sum over at most 32 tasks
+sum-fits : (f : ℕ → ℕ) (s n : ℕ) → n ≤ 32 → s ≤ 1_000_000 → sumTo n (λ i. min (f i) s) ≤ 32 * 1_000_000
+sum-fits f s n n-fits s-fits =
+    omega (arith, sum-bound (λ i. min (f i) s) 1_000_000 n (λ i h. omega arith))
+
+abbrev Inv-loop : tie.InvT-loop
+Inv-loop periods budgets deadlines sums₀ count i₀ sums i =
+    (i ≤ count)
+    × (length sums ≡ 32)
+    × ((k : ℕ) → k < count → getD sums k 0 ≡ sumTo i (λ j. part (getD periods j 0) (getD budgets j 0) (getD deadlines k 0) (getD budgets k 0)))
+
+abbrev μ-loop : tie.MeasureT-loop
+μ-loop periods budgets deadlines sums₀ count i₀ sums i = count - i
+
+loop-holds : tie.Need-loop-holds Inv-loop μ-loop
+unfolding sumTo
+loop-holds c = (omega arith, c .pre .0 .1, c .pre .1 .1)
+
+mul-add-parts : tie.Need-mul-add-parts Inv-loop μ-loop
+mul-add-parts c = omega arith
+
+element-copy-out-add-parts : tie.Need-element-copy-out-add-parts Inv-loop μ-loop
+element-copy-out-add-parts c = omega arith
+
+mul-add-parts-2 : tie.Need-mul-add-parts-2 Inv-loop μ-loop
+mul-add-parts-2 c = omega arith
+
+element-copy-out-add-parts-2 : tie.Need-element-copy-out-add-parts-2 Inv-loop μ-loop
+element-copy-out-add-parts-2 c = omega arith
+
+sum-small : (l : tie.At-loop Inv-loop μ-loop) (k : ℕ) → k < l .before .args .count → getD (l .loop .sums) k 0 ≤ 32 * 1_000_000
+sum-small l k h =
+    rw (l .loop .inv .2 k h) (sum-fits _ _ (l .loop .i) (omega arith) (omega (arith, l .before .pre .1 .0 k h)))
+
+add-parts-requires : tie.Need-add-parts-requires Inv-loop μ-loop
+add-parts-requires c κs =
+    let l = c .before .before .before .before in
+    let range = l .before .pre .1 .0 in
+    let own = range (l .loop .i) (omega arith) in
+    (omega arith, (omega arith, (λ k h. omega (arith, range k h), (λ k h. omega (arith, range k h), sum-small l))))
+
+add-i : tie.Need-add-i Inv-loop μ-loop
+add-i c = omega arith
+
+loop-less : tie.Need-loop-less Inv-loop μ-loop
+loop-less c = omega arith
+
+loop-again : tie.Need-loop-again Inv-loop μ-loop
+unfolding sumTo
+loop-again c =
+    let l = c .before .before .before .before .before in (
+      omega arith,
+      c .add-parts .ensures .0,
+      λ k h. rw (add-one (l .loop .i)) (omega (arith, c .add-parts .ensures .1 k h, l .loop .inv .2 k h)),
+    )
+
+returns : tie.Need-returns Inv-loop μ-loop
+returns c k h =
+    let l = c .before in
+    let e : l .loop .i ≡ l .before .args .count = omega arith in
+    l .loop .inv .2 k h ∙ rw e
+
+pub window-sums-spec : {M : Type 1} → statement M
+window-sums-spec =
+    tie.close
+    (tie.spec
+    Inv-loop
+    μ-loop
+    loop-holds
+    mul-add-parts
+    element-copy-out-add-parts
+    mul-add-parts-2
+    element-copy-out-add-parts-2
+    add-parts-requires
+    add-i
+    loop-less
+    loop-again
+    returns)

@@ -1,0 +1,141 @@
+-- `count_by_sums` meets its contract. The invariant: the count so far.
+use Prim.Native.Nat.{ℕ, _-_, _*_, _≤_}
+use native.Mathlib.Nat.{mul-le-mul-right}
+use native.Mathlib.Numerals.{add-one}
+use native.Mathlib.Omega.{arith}
+use mathlib.Core.Path.{_≡_, refl, _∙_}
+use mathlib.Core.Logic.{⊎-elim}
+use lib.Dec.{leb}
+use lib.ListN.{getD}
+use borrow.Author.Needs.{needs}
+use borrow.Author.Tests.{le-leb, lt-leb}
+use Rattle.edzl.specs.Window.{sumTo, bit}
+use Rattle.edzl.proofs.SumLaws.{bit-true, bit-false}
+use Rattle.judge.proofs.OwnPart.{needed}
+use Rattle.judge.proofs.urgent.count_by_sums.Statement.{statement}
+use Rattle.judge.proofs.urgent.count_by_sums.Tie as tie
+
+abbrev Inv-loop : tie.InvT-loop
+Inv-loop budgets deadlines sums count cores urgent₀ k₀ urgent k =
+    (k ≤ count) × (urgent ≡ sumTo k (λ i. bit (leb (needed cores (getD deadlines i 0) (getD budgets i 0)) (getD sums i 0)))) × (urgent ≤ k)
+
+abbrev μ-loop : tie.MeasureT-loop
+μ-loop budgets deadlines sums count cores urgent₀ k₀ urgent k = count - k
+
+loop-holds : tie.Need-loop-holds Inv-loop μ-loop
+unfolding sumTo
+loop-holds c = (omega arith, refl, omega arith)
+
+mul-budget : tie.Need-mul-budget Inv-loop μ-loop
+mul-budget c = omega arith
+
+element-copy-out-budget : tie.Need-element-copy-out-budget Inv-loop μ-loop
+element-copy-out-budget c = omega arith
+
+mul-spare : tie.Need-mul-spare Inv-loop μ-loop
+mul-spare c = omega arith
+
+element-copy-out-spare : tie.Need-element-copy-out-spare Inv-loop μ-loop
+element-copy-out-spare c = omega arith
+
+sub-spare : tie.Need-sub-spare Inv-loop μ-loop
+sub-spare c =
+    let l = c .before .before .before in
+    l .before .pre .1 .0 (l .loop .k) (omega arith)
+
+own-part-requires : tie.Need-own-part-requires Inv-loop μ-loop
+own-part-requires c κs = search needs
+
+-- What the test computes with: the spare is small, and so is its product with the cores.
+record Small (cores D B : ℕ) : Type 0 where
+  pub spare-small : D - B ≤ 1_000_000
+  pub product-small : cores * (D - B) ≤ 16_000_000
+
+small :
+    (l : tie.In-loop Inv-loop μ-loop)
+    → Small (l .before .before .args .cores) (getD (l .before .before .args .deadlines .now) (l .before .loop .k) 0)
+    (getD (l .before .before .args .budgets .now) (l .before .loop .k) 0)
+small l =
+    let p = l .before .before .pre in
+    let k = l .before .loop .k in
+    let a = l .before .before .args in
+    let spare = getD (a .deadlines .now) k 0 - getD (a .budgets .now) k 0 in
+    let spare-small : spare ≤ 1_000_000 = omega (arith, p .1 .1 k (omega arith)) in
+    record { spare-small = spare-small; product-small = omega (arith, mul-le-mul-right spare (p .0 .1)) }
+
+cast-if1 : tie.Need-cast-if1 Inv-loop μ-loop
+cast-if1 c = omega (arith, small (c .before .before .before))
+
+mul-if1 : tie.Need-mul-if1 Inv-loop μ-loop
+mul-if1 c = omega (arith, small (c .before .before .before))
+
+add-if1 : tie.Need-add-if1 Inv-loop μ-loop
+add-if1 c = omega (arith, small (c .before .before .before), c .own-part .ensures)
+
+mul-if1-2 : tie.Need-mul-if1-2 Inv-loop μ-loop
+mul-if1-2 c = omega arith
+
+element-copy-out-if1 : tie.Need-element-copy-out-if1 Inv-loop μ-loop
+element-copy-out-if1 c = omega arith
+
+add-urgent : tie.Need-add-urgent Inv-loop μ-loop
+add-urgent c = omega arith
+
+add-k : tie.Need-add-k Inv-loop μ-loop
+add-k c = omega arith
+
+loop-less : tie.Need-loop-less Inv-loop μ-loop
+loop-less c = omega arith
+
+loop-again : tie.Need-loop-again Inv-loop μ-loop
+unfolding sumTo
+loop-again c =
+    let m = c .before .before in
+    let l = m .before .before .before .before in
+    let a = l .before .args in
+    let least-sum = needed (a .cores) (getD (a .deadlines .now) (l .loop .k) 0) (getD (a .budgets .now) (l .loop .k) 0) in
+    let sum = getD (a .sums .now) (l .loop .k) 0 in
+    ⊎-elim
+    (λ w.
+    let e = le-leb least-sum sum (omega (arith, w .0 .taken, m .own-part .ensures)) in (
+      omega arith,
+      rw (add-one (l .loop .k)) (omega (arith, w .1, l .loop .inv, bit-true _ e)),
+      omega (arith, w .1, l .loop .inv),
+    ))
+    (λ w.
+    let e = lt-leb least-sum sum (omega (arith, w .0 .left, m .own-part .ensures)) in (
+      omega arith,
+      rw (add-one (l .loop .k)) (omega (arith, w .1, l .loop .inv, bit-false _ e)),
+      omega (arith, w .1, l .loop .inv),
+    ))
+    (c .if1 .came)
+
+returns : tie.Need-returns Inv-loop μ-loop
+returns c =
+    let l = c .before in
+    let e : l .loop .k ≡ l .before .args .count = omega arith in
+    l .loop .inv .1 ∙ rw e
+
+pub count-by-sums-spec : {M : Type 1} → statement M
+count-by-sums-spec =
+    tie.close
+    (tie.spec
+    Inv-loop
+    μ-loop
+    loop-holds
+    mul-budget
+    element-copy-out-budget
+    mul-spare
+    element-copy-out-spare
+    sub-spare
+    own-part-requires
+    cast-if1
+    mul-if1
+    add-if1
+    mul-if1-2
+    element-copy-out-if1
+    add-urgent
+    add-k
+    loop-less
+    loop-again
+    returns)

@@ -1,0 +1,38 @@
+// A table's numbers in flat arrays, which can be lent: an array of tasks would be copied at each call.
+use tasks::limits::MAX_TASKS;
+use tasks::task::Task;
+ghost use Prim.Native.Nat.{ℕ, _≤_, _<_};
+ghost use mathlib.Core.Path.{_≡_};
+ghost use lib.ListN.{getD};
+ghost use Rattle.tasks.specs.Limits.{maxTasks};
+ghost use Rattle.tasks.specs.Table.{zeroTask};
+
+// T, C and D of each task, by its index.
+pub(crate) struct Numbers {
+    pub(crate) periods: [u32; MAX_TASKS],
+    pub(crate) budgets: [u32; MAX_TASKS],
+    pub(crate) deadlines: [u32; MAX_TASKS],
+}
+
+// The numbers of the first `count` tasks.
+pub(crate) fn numbers_of(tasks: [Task; MAX_TASKS], count: usize) -> Numbers
+    requires { ⌜ count ≤ maxTasks ⌝ }
+    ensures { λ r. ⌜ ((i : ℕ) → i < count → getD (r .periods) i 0 ≡ getD tasks i zeroTask .period) ⌝ }
+    ensures { λ r. ⌜ ((i : ℕ) → i < count → getD (r .budgets) i 0 ≡ getD tasks i zeroTask .budget) ⌝ }
+    ensures { λ r. ⌜ ((i : ℕ) → i < count → getD (r .deadlines) i 0 ≡ getD tasks i zeroTask .deadline) ⌝ }
+{
+    let mut numbers = Numbers {
+        periods: [0; MAX_TASKS],
+        budgets: [0; MAX_TASKS],
+        deadlines: [0; MAX_TASKS],
+    };
+    let mut i: usize = 0;
+    while i < count {
+        let task = tasks[i];
+        numbers.periods[i] = task.period;
+        numbers.budgets[i] = task.budget;
+        numbers.deadlines[i] = task.deadline;
+        i += 1;
+    }
+    numbers
+}

@@ -1,0 +1,75 @@
+// How many tasks may turn urgent.
+use crate::numbers::numbers_of;
+use crate::sums::window_sums;
+use edzl::least;
+use tasks::limits::MAX_TASKS;
+use tasks::task::Task;
+ghost use Prim.Native.Nat.{ℕ, _+_, _-_, _*_, _≤_, _<_, min};
+ghost use mathlib.Core.Path.{_≡_};
+ghost use mathlib.Core.Bool.{true};
+ghost use lib.Dec.{leb};
+ghost use lib.ListN.{getD};
+ghost use Rattle.tasks.specs.Limits.{maxTasks, maxCores, maxPeriod};
+ghost use Rattle.tasks.specs.Task.{inRange};
+ghost use Rattle.tasks.specs.Table.{zeroTask};
+ghost use Rattle.edzl.specs.Window.{sumTo, bit, countUrgent, noSlack};
+ghost use Rattle.judge.specs.TaskSet.{firstTasks};
+
+// What a task counts for in its own sum: in a window of its deadline it interferes by its budget.
+fn own_part(budget: u32, spare: u32) -> u64
+    ensures { λ r. ⌜ r ≡ min budget spare ⌝ }
+{
+    least(budget as u64, spare as u64)
+}
+
+// How many tasks have a sum over the others that is at least `cores` times their spare. The sums count the task itself
+// too, so its own part stands on both sides.
+fn count_by_sums<'a>(
+    budgets: &'a [u32; MAX_TASKS],
+    deadlines: &'a [u32; MAX_TASKS],
+    sums: &[u64; MAX_TASKS],
+    count: usize,
+    cores: u32,
+) -> u32
+    requires { ⌜ (count ≤ maxTasks) × (cores ≤ maxCores) ⌝ }
+    requires { ⌜ ((k : ℕ) → k < count → getD (now budgets) k 0 ≤ getD (now deadlines) k 0) ⌝ }
+    requires { ⌜ ((k : ℕ) → k < count → getD (now deadlines) k 0 ≤ maxPeriod) ⌝ }
+    ensures { λ r. ⌜ r
+        ≡ sumTo count
+        (λ k. bit
+        (leb
+        (cores * (getD (now (deadlines .entry)) k 0 - getD (now (budgets .entry)) k 0)
+        + min (getD (now (budgets .entry)) k 0) (getD (now (deadlines .entry)) k 0 - getD (now (budgets .entry)) k 0))
+        (getD (now (sums .entry)) k 0))) ⌝ }
+{
+    let mut urgent: u32 = 0;
+    let mut k: usize = 0;
+    while k < count {
+        let budget = budgets[k];
+        let spare = deadlines[k] - budget;
+        let own = own_part(budget, spare);
+        if cores as u64 * spare as u64 + own <= sums[k] {
+            urgent += 1;
+        }
+        k += 1;
+    }
+    urgent
+}
+
+// How many of the first `count` tasks may turn urgent. The numbers are copied once, and lent from then on.
+pub(crate) fn count_urgent(tasks: [Task; MAX_TASKS], count: usize, cores: u32) -> u32
+    requires { ⌜ (count ≤ maxTasks) × (cores ≤ maxCores) ⌝ }
+    requires { ⌜ ((i : ℕ) → i < count → inRange (getD tasks i zeroTask) ≡ true) ⌝ }
+    ensures { λ r. ⌜ r ≡ countUrgent (firstTasks tasks count) noSlack cores ⌝ }
+{
+    let numbers = numbers_of(tasks, count);
+    let mut sums = [0u64; MAX_TASKS];
+    window_sums(
+        &numbers.periods,
+        &numbers.budgets,
+        &numbers.deadlines,
+        &mut sums,
+        count,
+    );
+    count_by_sums(&numbers.budgets, &numbers.deadlines, &sums, count, cores)
+}

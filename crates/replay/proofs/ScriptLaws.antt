@@ -1,0 +1,35 @@
+-- What is printed for a script, by what was found of its first line.
+use Prim.Native.Nat.{ℕ, _≤_, _<_}
+use mathlib.Core.Path.{_≡_}
+use mathlib.Core.Bool.{false}
+use mathlib.Core.List.{List}
+use borrow.Author.Tests.{le-ltb}
+use lib.ListN.{length, take}
+use Rattle.reader.specs.Lines.{lineEnd, has, before}
+use Rattle.reader.proofs.Scan.{cut, hasnt-of}
+use Rattle.reader.proofs.NamesLine.{past}
+use Rattle.replay.specs.declared.numbers.Number.the-variants.{Read, Broken}
+use Rattle.replay.specs.Words.{coresWord}
+use Rattle.replay.specs.Numbers.{numberAfter}
+use Rattle.replay.specs.Calls.{callsStart}
+use Rattle.replay.specs.Output.{badLine}
+use Rattle.replay.specs.Script.{printedAfterCores, printedAfterFirst, printed}
+
+module _ (s : List ℕ) (h : length s ≤ 65536) (k : ℕ) (e : k ≡ length (before lineEnd s)) where
+  pub first-unended : length s ≤ k → printed s ≡ badLine 1
+  unfolding printed
+  first-unended l = let z : has lineEnd s ≡ false = hasnt-of lineEnd s (rw e at l) in rw (le-ltb 65536 (length s) h, z)
+
+  module _ (l : k < length s) where
+    pub first-broken : numberAfter coresWord (take k s) ≡ Broken → printed s ≡ badLine 1
+    unfolding printed printedAfterFirst
+    first-broken b =
+        let d = cut lineEnd s k e l in
+        rw (le-ltb 65536 (length s) h, d .is, ← d .front, b)
+
+    pub first-read :
+        (cores : ℕ) → numberAfter coresWord (take k s) ≡ Read cores → printed s ≡ printedAfterCores (callsStart (past s k)) cores (past s k)
+    unfolding printed printedAfterFirst
+    first-read cores b =
+        let d = cut lineEnd s k e l in
+        rw (le-ltb 65536 (length s) h, d .is, ← d .front, b, d .rest)

@@ -1,0 +1,39 @@
+-- `put_bad_line` meets its contract: the word, and the number with its byte 10.
+use borrow.Author.Needs.{needs}
+use Rattle.replay.specs.Output.{badLine}
+use Rattle.replay.proofs.Growing.{grown-more}
+use Rattle.replay.proofs.output.put_bad_line.Statement.{statement}
+use Rattle.replay.proofs.output.put_bad_line.Tie as tie
+
+slice-aggregate-put : tie.Need-slice-aggregate-put
+slice-aggregate-put c = search needs
+
+put-requires : tie.Need-put-requires
+put-requires c κs = search needs
+
+cast-put-number : tie.Need-cast-put-number
+cast-put-number c = search needs
+
+put-number-requires : tie.Need-put-number-requires
+put-number-requires c κs = search needs
+
+same-length : tie.Need-same-length
+same-length c = search needs
+
+returns : tie.Need-returns
+unfolding badLine
+returns c =
+    let n = c .before .before in
+    let p = n .before .before .before .before in
+    grown-more _ _ _ _ _ _ _ _ (p .put .ensures) (n .put-number .ensures)
+
+pub put-bad-line-spec : {M : Type 1} → statement M
+put-bad-line-spec =
+    tie.close
+    (tie.spec
+    slice-aggregate-put
+    put-requires
+    cast-put-number
+    put-number-requires
+    same-length
+    returns)

@@ -1,0 +1,45 @@
+-- A script and what is printed for it, computed: the theorem stands in proofs/ExamplesHold.antt.
+use Prim.Native.Nat.{ℕ}
+use mathlib.Core.List.{List, [], _∷_}
+
+-- a join, a refused call, a line that is no call (the tenth, SLOT with a space after it), and a call after that, which is not played:
+--     CORES 1
+--     PERIOD BUDGET DEADLINE
+--     4 2 4
+--     CALLS
+--     RELEASE 1
+--     SLOT
+--     FINISH 2
+--     JOIN 9 1 9
+--     SLOT
+--     SLOT
+--     SLOT
+unfoldable pub exampleScript : List ℕ
+exampleScript =
+    67 ∷ 79 ∷ 82 ∷ 69 ∷ 83 ∷ 32 ∷ 49 ∷ 10
+    ∷ 80 ∷ 69 ∷ 82 ∷ 73 ∷ 79 ∷ 68 ∷ 32 ∷ 66 ∷ 85 ∷ 68 ∷ 71 ∷ 69 ∷ 84 ∷ 32 ∷ 68 ∷ 69 ∷ 65 ∷ 68 ∷ 76 ∷ 73 ∷ 78 ∷ 69 ∷ 10
+    ∷ 52 ∷ 32 ∷ 50 ∷ 32 ∷ 52 ∷ 10
+    ∷ 67 ∷ 65 ∷ 76 ∷ 76 ∷ 83 ∷ 10
+    ∷ 82 ∷ 69 ∷ 76 ∷ 69 ∷ 65 ∷ 83 ∷ 69 ∷ 32 ∷ 49 ∷ 10
+    ∷ 83 ∷ 76 ∷ 79 ∷ 84 ∷ 10
+    ∷ 70 ∷ 73 ∷ 78 ∷ 73 ∷ 83 ∷ 72 ∷ 32 ∷ 50 ∷ 10
+    ∷ 74 ∷ 79 ∷ 73 ∷ 78 ∷ 32 ∷ 57 ∷ 32 ∷ 49 ∷ 32 ∷ 57 ∷ 10
+    ∷ 83 ∷ 76 ∷ 79 ∷ 84 ∷ 10
+    ∷ 83 ∷ 76 ∷ 79 ∷ 84 ∷ 32 ∷ 10
+    ∷ 83 ∷ 76 ∷ 79 ∷ 84 ∷ 10 ∷ []
+
+-- what is printed for it:
+--     DONE
+--     1 0 0 1
+--     REFUSED 8
+--     DONE
+--     1 1 0 1
+--     BAD LINE 10
+unfoldable pub exampleOutput : List ℕ
+exampleOutput =
+    68 ∷ 79 ∷ 78 ∷ 69 ∷ 10
+    ∷ 49 ∷ 32 ∷ 48 ∷ 32 ∷ 48 ∷ 32 ∷ 49 ∷ 10
+    ∷ 82 ∷ 69 ∷ 70 ∷ 85 ∷ 83 ∷ 69 ∷ 68 ∷ 32 ∷ 56 ∷ 10
+    ∷ 68 ∷ 79 ∷ 78 ∷ 69 ∷ 10
+    ∷ 49 ∷ 32 ∷ 49 ∷ 32 ∷ 48 ∷ 32 ∷ 49 ∷ 10
+    ∷ 66 ∷ 65 ∷ 68 ∷ 32 ∷ 76 ∷ 73 ∷ 78 ∷ 69 ∷ 32 ∷ 49 ∷ 48 ∷ 10 ∷ []
