@@ -1,4 +1,5 @@
--- The calls of a script: "one call a line: `RELEASE i`, `FINISH i`, `SLOT`, `JOIN T C D`", and the line `CALLS` before them.
+-- The calls of a script (docs/HANDBOOK.md, "Replaying calls"): "one call a line: `RELEASE i`, `FINISH i`, `SLOT`, `JOIN T C D`", and the line
+-- `CALLS` before them.
 use Prim.Native.Nat.{ℕ, _+_}
 use mathlib.Core.List.{List, [], _∷_}
 use mathlib.Core.Bool.{cond, _&&_}

@@ -1,4 +1,4 @@
--- "Output, one line per call, each ended by byte 10".
+-- What is printed for a call (docs/HANDBOOK.md, "Replaying calls"): "Output, one line per call, each ended by byte 10".
 use Prim.Native.Nat.{ℕ}
 use mathlib.Core.List.{List, [], _∷_, _++_}
 use Rattle.reader.specs.Lines.{lineEnd, space}

@@ -1,4 +1,4 @@
--- What is printed for a script: "a line `CORES m`, a table as in document 01, a line `CALLS`, then one call a line".
+-- What is printed for a script (docs/HANDBOOK.md, "Replaying calls"): "a line `CORES m`, a table .., a line `CALLS`, then one call a line".
 use Prim.Native.Nat.{ℕ, _+_}
 use mathlib.Core.List.{List, [], _∷_, _++_}
 use mathlib.Core.Bool.{cond}
@@ -61,7 +61,7 @@ unfoldable pub printedAfterCores : CallsStart → (cores : ℕ) → (s : List �
 printedAfterCores (Found table calls n) cores s = printedFor (take table s) cores n (drop calls s)
 printedAfterCores (Missing n) cores s = badLine n
 
--- by the number of the first line, which the text s follows: "a missing or malformed CORES line is `BAD LINE 1`"
+-- by the number of the first line, which the text s follows: "A missing or malformed CORES line is `BAD LINE 1`"
 unfoldable pub printedAfterFirst : Number → (s : List ℕ) → List ℕ
 printedAfterFirst (Number.Read cores) s = printedAfterCores (callsStart s) cores s
 printedAfterFirst Number.Broken s = badLine 1
