@@ -10,15 +10,16 @@ use lib.Dec.{eqb}
 use lib.Seq.{drop-drop}
 use Rattle.reader.specs.Lines.{lineEnd, space, has, before, after}
 use Rattle.reader.specs.Names.{sameBytes}
-use Rattle.reader.proofs.Scan.{part, Cut, cut, hasnt-of}
+use Rattle.reader.proofs.Scan.{part, Cut, cut, hasnt-of, gone-rest}
 use Rattle.reader.proofs.NamesLine.{past}
 use Rattle.reader.proofs.ValueLine.{rest-of, rest-length, and-right}
 use Rattle.machine.specs.declared.call.Call.{Call}
 use Rattle.machine.specs.declared.call.Call.the-variants.{Release, Finish, Slot}
 use Rattle.replay.specs.Words.{beginsWith, releaseWord, finishWord, joinWord, slotWord, callsWord}
-use Rattle.replay.specs.Numbers.{numberOf, numberAfter}
+use Rattle.replay.specs.Numbers.{isNumber, numberOf, numberAfter}
 use Rattle.replay.specs.Lines.{lines}
 use Rattle.replay.specs.Calls.{joinOfThree, joinOf, callOfTask, callOf, callsFrom, callsStart}
+use Rattle.replay.specs.declared.numbers.Number.{Number}
 use Rattle.replay.specs.declared.numbers.Number.the-variants as Number
 use Rattle.replay.specs.declared.calls.CallLine.{CallLine}
 use Rattle.replay.specs.declared.calls.CallLine.the-variants.{Read, Bad}
@@ -128,11 +129,24 @@ pub missing-few : (s : List ℕ) (l : ℕ) → callsStart s ≡ Missing l → l 
 unfolding callsStart
 missing-few s l e = omega (arith, missing-from 0 2 (lines s) l e, total-lines s)
 
+-- an empty field is no number, and a join whose last field is none is bad
+no-number : numberOf [] ≡ Number.Broken
+unfolding numberOf isNumber
+no-number = refl
+
+no-last : (t c : Number) → joinOfThree t c (numberOf []) ≡ Bad
+unfolding joinOfThree
+no-last (Number.Read t) (Number.Read c) = rw no-number
+no-last (Number.Read t) Number.Broken = refl
+no-last Number.Broken c = refl
+
 -- the fields f of a join, whose first space was looked for
 module _ (f : List ℕ) (a : ℕ) (e : a ≡ length (before space f)) where
   pub no-space : length f ≤ a → Bad ≡ joinOf f
-  unfolding joinOf
-  no-space h = let z : has space f ≡ false = hasnt-of space f (rw e at h) in rw z
+  unfolding joinOf after
+  no-space h =
+      let none = gone-rest space f (hasnt-of space f (rw e at h)) in
+      rw none (sym (no-last (numberOf (before space f)) (numberOf (before space []))))
 
   -- it is at a, and the second one was looked for
   module _ (h : a < length f) (b : ℕ) (e₁ : b ≡ length (before space (past f a))) where
@@ -142,8 +156,8 @@ module _ (f : List ℕ) (a : ℕ) (e : a ≡ length (before space f)) where
     pub one-space : length (past f a) ≤ b → Bad ≡ joinOf f
     unfolding joinOf
     one-space h₁ =
-        let z : has space (after space f) ≡ false = rw (first .rest) at (hasnt-of space (past f a) (rw e₁ at h₁)) in
-        rw (first .is, z)
+        let gone : has space (after space f) ≡ false = rw (first .rest) at (hasnt-of space (past f a) (rw e₁ at h₁)) in
+        rw (gone-rest space (after space f) gone) (sym (no-last (numberOf (before space f)) (numberOf (before space (after space f)))))
 
     -- it is at b of what follows: three fields
     module _ (h₁ : b < length (past f a)) where
@@ -152,9 +166,7 @@ module _ (f : List ℕ) (a : ℕ) (e : a ≡ length (before space f)) where
 
       pub three-fields : joinOf f ≡ joinOfThree (numberOf (take a f)) (numberOf (take b (past f a))) (numberOf (past (past f a) b))
       unfolding joinOf
-      three-fields =
-          let z : has space (after space f) ≡ true = rw (first .rest) at (second .is) in
-          rw (first .is, z, first .front, second .front, second .rest, first .rest)
+      three-fields = rw (first .front, second .front, second .rest, first .rest)
 
 -- a call's line has four bytes or more
 same-length : (s t : List ℕ) → sameBytes s t ≡ true → length s ≡ length t

@@ -2,9 +2,9 @@
 -- `CALLS` before them.
 use Prim.Native.Nat.{ℕ, _+_}
 use mathlib.Core.List.{List, [], _∷_}
-use mathlib.Core.Bool.{cond, _&&_}
+use mathlib.Core.Bool.{cond}
 use lib.ListN.{length, drop}
-use Rattle.reader.specs.Lines.{space, has, before, after}
+use Rattle.reader.specs.Lines.{space, before, after}
 use Rattle.reader.specs.Names.{sameBytes}
 use Rattle.machine.specs.declared.call.Call.{Call}
 use Rattle.machine.specs.declared.call.Call.the-variants.{Release, Finish, Slot, Join}
@@ -25,12 +25,11 @@ joinOfThree (Number.Read t) (Number.Read c) Number.Broken = Bad
 joinOfThree (Number.Read t) Number.Broken d = Bad
 joinOfThree Number.Broken c d = Bad
 
--- "T C D": what stands before the first space, between it and the second, and after that
+-- "T C D": what stands before the first space, between it and the second, and after that; what is missing is empty, and so no number
 unfoldable pub joinOf : List ℕ → CallLine
 joinOf f =
     let rest = after space f in
-    cond (has space f && has space rest)
-    (joinOfThree (numberOf (before space f)) (numberOf (before space rest)) (numberOf (after space rest))) Bad
+    joinOfThree (numberOf (before space f)) (numberOf (before space rest)) (numberOf (after space rest))
 
 -- the call of task i, if there is a number i; else what the line is otherwise
 unfoldable pub callOfTask : Number → (ℕ → Call) → CallLine → CallLine
