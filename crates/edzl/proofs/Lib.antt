@@ -1,5 +1,5 @@
 pub mod WellFormed
-pub mod Cases
+pub mod CaseSplits
 pub mod InterferenceLaws
 pub mod SumLaws
 pub mod WindowLaws

@@ -5,7 +5,8 @@ use mathlib.Core.Path.{_≡_}
 use mathlib.Core.Bool.{Bool, true}
 use Rattle.edzl.specs.TaskSet.{TaskSet}
 use Rattle.edzl.proofs.WellFormed.{WellFormed}
-use Rattle.edzl.specs.Window.{bit, noSlack, admitted}
+use Rattle.edzl.specs.Sums.{bit}
+use Rattle.edzl.specs.Window.{noSlack, admitted}
 use Rattle.edzl.proofs.WindowLaws.{admitted-few}
 use Rattle.edzl.proofs.Invariant.{Jobs, Invariant, Fresh, fresh-starts, in-time-ahead, no-slack-fits}
 use Rattle.edzl.proofs.Release.{Released, release-keeps}

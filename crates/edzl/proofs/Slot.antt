@@ -8,8 +8,9 @@ use native.Mathlib.Nat.{le-trans}
 use native.Mathlib.Omega.{arith}
 use Rattle.edzl.specs.TaskSet.{TaskSet}
 use Rattle.edzl.proofs.WellFormed.{WellFormed}
-use Rattle.edzl.specs.Window.{sumTo, others, bit}
-use Rattle.edzl.proofs.Cases.{by-order, by-test, not-both}
+use Rattle.edzl.specs.Sums.{sumTo, bit}
+use Rattle.edzl.specs.Window.{others}
+use Rattle.edzl.proofs.CaseSplits.{by-order, by-test, not-both}
 use Rattle.edzl.proofs.SumLaws.{others-gain, bit-true, bit-false}
 use Rattle.edzl.proofs.Potential.{openClaim, finish, pass-open, pass-closed, take}
 use Rattle.edzl.proofs.Invariant.{Jobs, NoJob, Shape, Bound, Invariant, claim, lost, used, claim-open, claim-closed, shape-closed, bound-kept}

@@ -5,8 +5,9 @@ use mathlib.Core.Bool.{Bool, true, false}
 use native.Mathlib.Nat.{le-refl, add-zero, add-suc, not-suc-le-zero}
 use native.Mathlib.Omega.{arith}
 use borrow.Author.Tests.{eq-eqb, ne-eqb}
-use Rattle.edzl.specs.Window.{sumTo, others, bit}
-use Rattle.edzl.proofs.Cases.{by-equal, by-test}
+use Rattle.edzl.specs.Sums.{sumTo, bit}
+use Rattle.edzl.specs.Window.{others}
+use Rattle.edzl.proofs.CaseSplits.{by-equal, by-test}
 
 -- Below n, a property of the indexes below suc n.
 down : {P : ℕ → Type 0} (n : ℕ) → ((i : ℕ) → i < suc n → P i) → (i : ℕ) → i < n → P i
@@ -133,3 +134,14 @@ bit-monotone t u h =
 -- No more are counted than there are.
 pub count-bound : (p : ℕ → Bool) (n : ℕ) → sumTo n (λ i. bit (p i)) ≤ n
 count-bound p n = omega (arith, sum-bound (λ i. bit (p i)) 1 n (λ i h. bit-small (p i)))
+
+-- A sum with 1 more at r.
+pub sum-one-more : (f g : ℕ → ℕ) (r n : ℕ) → r < n → g r ≡ suc (f r) → ((i : ℕ) → (i ≡ r → ⊥) → g i ≡ f i) → sumTo n g ≡ suc (sumTo n f)
+unfolding sumTo
+sum-one-more f g r zero h at off = absurd (omega arith)
+sum-one-more f g r (suc n) h at off =
+    by-equal r n
+    (λ e.
+    let last : g n ≡ suc (f n) = subst (λ (j : ℕ). g j ≡ suc (f j)) e at in
+    omega (arith, sum-same g f n (λ i l. off i (omega arith))))
+    (λ ne. omega (arith, sum-one-more f g r n (omega arith) at off, off n (omega arith)))

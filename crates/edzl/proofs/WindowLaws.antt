@@ -4,7 +4,8 @@ use mathlib.Core.Path.{_≡_, refl, ap, _∙_}
 use mathlib.Core.Bool.{true}
 use borrow.Author.Tests.{leb-true}
 use Rattle.edzl.specs.TaskSet.{TaskSet}
-use Rattle.edzl.specs.Window.{spare, sumTo, noSlack, windowSum, mayTurnUrgent, bit, countUrgent, admitted}
+use Rattle.edzl.specs.Window.{spare, noSlack, windowSum, mayTurnUrgent, countUrgent, admitted}
+use Rattle.edzl.specs.Sums.{sumTo, bit}
 use Rattle.edzl.proofs.SumLaws.{sum-same, others-same}
 
 -- One task is the same in both sets.

@@ -1,2 +1,3 @@
 pub mod TaskSet
+pub mod Sums
 pub mod Window

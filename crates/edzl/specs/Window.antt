@@ -1,8 +1,9 @@
 -- The window test, with a slack for each task (document 01, "The window test", where all slacks are zero).
-use Prim.Native.Nat.{ℕ, zero, suc, _+_, _*_, _-_, _/_, min}
+use Prim.Native.Nat.{ℕ, _+_, _*_, _-_, _/_, min}
 use mathlib.Core.Bool.{Bool, cond}
 use lib.Dec.{leb, eqb}
 use Rattle.edzl.specs.TaskSet.{TaskSet}
+use Rattle.edzl.specs.Sums.{sumTo, bit}
 
 -- "The interference of task i in a window of L slots is I_i(L) = q·C_i + min(C_i, L − q·T_i), where q is L divided by T_i,
 -- rounded down"
@@ -14,11 +15,6 @@ interference period budget window =
 -- "The spare of task k is A_k = D_k − C_k."
 unfoldable pub spare : TaskSet → ℕ → ℕ
 spare tasks k = tasks .deadline k - tasks .budget k
-
--- The total of f over the indexes below n.
-unfoldable pub sumTo : ℕ → (ℕ → ℕ) → ℕ
-sumTo zero f = 0
-sumTo (suc n) f = sumTo n f + f n
 
 -- "over every i other than k": f, with nothing at k.
 unfoldable pub others : ℕ → (ℕ → ℕ) → ℕ → ℕ
@@ -39,10 +35,6 @@ windowSum tasks slack k =
 -- "Task k may turn urgent on m cores when its sum is at least m·A_k."
 unfoldable pub mayTurnUrgent : TaskSet → (slack : ℕ → ℕ) → (m : ℕ) → ℕ → Bool
 mayTurnUrgent tasks slack m k = leb (m * spare tasks k) (windowSum tasks slack k)
-
--- 1 for what holds and 0 for what does not, so that a sum counts.
-unfoldable pub bit : Bool → ℕ
-bit t = cond t 1 0
 
 -- "COUNT is the number of tasks that may turn urgent."
 unfoldable pub countUrgent : TaskSet → (slack : ℕ → ℕ) → (m : ℕ) → ℕ

@@ -3,3 +3,4 @@ pub mod Inverse
 pub mod Turns
 pub mod OwnPart
 pub mod Listed
+pub mod Admits

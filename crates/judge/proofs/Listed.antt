@@ -11,11 +11,12 @@ use Rattle.tasks.specs.Task.{inRange}
 use Rattle.tasks.specs.Table.{zeroTask}
 use Rattle.tasks.proofs.Range.{range-of}
 use Rattle.edzl.specs.TaskSet.{TaskSet}
-use Rattle.edzl.specs.Window.{sumTo, bit, noSlack, countUrgent}
+use Rattle.edzl.specs.Sums.{sumTo, bit}
+use Rattle.edzl.specs.Window.{noSlack, countUrgent}
 use Rattle.edzl.proofs.WellFormed.{WellFormed}
 use Rattle.edzl.proofs.SumLaws.{sum-same}
 use Rattle.edzl.proofs.WindowLaws.{SameTask, count-same}
-use Rattle.judge.specs.TaskSet.{firstTasks}
+use Rattle.tasks.specs.TaskSet.{firstTasks}
 use Rattle.judge.proofs.OwnPart.{sumOf, urgentBy, count-with-own}
 
 -- The first n tasks of three lists.

@@ -1,4 +1,5 @@
--- What a verdict's case says of the judging. Others cite `outcome-is`, `refused-outcome` and `judged-values`.
+-- What a verdict's case says of the judging. Others cite `outcome-is`, `refused-outcome`, `refused-values` and
+-- `judged-values`.
 use Prim.Native.Nat.{ℕ, _≤_}
 use native.Mathlib.Omega.{arith}
 use mathlib.Core.Path.{_≡_, refl, sym, ap, _∙_}
@@ -6,11 +7,12 @@ use mathlib.Core.Bool.{Bool}
 use Rattle.tasks.specs.declared.table.Table.{Table}
 use Rattle.tasks.specs.declared.outcome.Outcome.{Outcome}
 use Rattle.tasks.specs.declared.outcome.Outcome.the-variants as Out
+use Rattle.tasks.specs.Limits.{maxTasks}
 use Rattle.tasks.specs.Check.{checked}
 use Rattle.tasks.proofs.Checked.{passes}
 use Rattle.edzl.specs.Window.{noSlack, mayTurnUrgent, countUrgent}
 use Rattle.edzl.proofs.SumLaws.{count-bound}
-use Rattle.judge.specs.TaskSet.{firstTasks, tasksOf}
+use Rattle.tasks.specs.TaskSet.{firstTasks, tasksOf}
 use Rattle.judge.specs.declared.Verdict.the-variants.{Judged, Refused}
 use Rattle.judge.specs.Judge.{Values, refusedValues, valuesOf, judgedAfter, judged}
 
@@ -28,6 +30,9 @@ pub refused-outcome : (t : Table) (m number place : ℕ) → valuesOf (Refused n
 unfolding valuesOf refusedValues
 refused-outcome t m number place e = sym (outcome-is t m) ∙ sym (ap (λ (v : Values). v .outcome) e)
 
+pub refused-values : (t : Table) (m number place : ℕ) → valuesOf (Refused number place) ≡ judged t m → judged t m .outcome ≡ Out.Refused number place
+refused-values t m number place e = outcome-is t m ∙ refused-outcome t m number place e
+
 -- a table that was judged has its COUNT and its verdict
 pub record JudgedValues (t : Table) (m count : ℕ) (admits : Bool) : Type 0 where
   pub outcome : judged t m .outcome ≡ Out.Done
@@ -44,10 +49,10 @@ judged-values t m count admits e =
     }
 
 -- COUNT is at most the 32 tasks of a table
-pub count-small : (t : Table) (m : ℕ) → judged t m .count ≤ 32
+pub count-small : (t : Table) (m : ℕ) → judged t m .count ≤ maxTasks
 unfolding judged judgedAfter refusedValues countUrgent tasksOf firstTasks
 count-small t m = go (checked t m) refl
   where
-    go : (o : Outcome) → checked t m ≡ o → judgedAfter o t m .count ≤ 32
+    go : (o : Outcome) → checked t m ≡ o → judgedAfter o t m .count ≤ maxTasks
     go Out.Done e = omega (arith, passes t m e .count-fits, count-bound (λ k. mayTurnUrgent (tasksOf t) noSlack m k) (t .count))
     go (Out.Refused number place) e = omega arith

@@ -8,9 +8,10 @@ use mathlib.Core.Bool.{Bool}
 use lib.Dec.{leb}
 use borrow.Author.Tests.{le-leb, lt-leb}
 use Rattle.edzl.specs.TaskSet.{TaskSet}
-use Rattle.edzl.specs.Window.{interference, spare, sumTo, others, bit, noSlack, windowSum, mayTurnUrgent, countUrgent}
+use Rattle.edzl.specs.Window.{interference, spare, others, noSlack, windowSum, mayTurnUrgent, countUrgent}
+use Rattle.edzl.specs.Sums.{sumTo, bit}
 use Rattle.edzl.proofs.WellFormed.{WellFormed}
-use Rattle.edzl.proofs.Cases.{by-order}
+use Rattle.edzl.proofs.CaseSplits.{by-order}
 use Rattle.edzl.proofs.InterferenceLaws.{first-period}
 use Rattle.edzl.proofs.SumLaws.{sum-same, sum-others, others-same}
 

@@ -6,7 +6,7 @@ use Rattle.tasks.specs.declared.table.Table.{Table}
 use Rattle.tasks.specs.declared.outcome.Outcome.{Outcome}
 use Rattle.tasks.specs.declared.outcome.Outcome.the-variants as Out
 use Rattle.tasks.specs.Check.{checked}
-use Rattle.judge.specs.TaskSet.{tasksOf}
+use Rattle.tasks.specs.TaskSet.{tasksOf}
 use Rattle.judge.specs.declared.Verdict.{Verdict}
 use Rattle.judge.specs.declared.Verdict.the-variants.{Judged, Refused}
 

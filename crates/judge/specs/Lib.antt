@@ -1,2 +1,1 @@
-pub mod TaskSet
 pub mod Judge

@@ -18,6 +18,19 @@ pub enum Verdict {
 }
 
 impl Verdict {
+    // Whether judging was carried out, or the refusal's number and place.
+    pub fn outcome(self) -> Outcome
+        ensures { λ r. ⌜ r ≡ valuesOf self .outcome ⌝ }
+    {
+        match self {
+            Verdict::Judged {
+                count: _,
+                admitted: _,
+            } => Outcome::Done,
+            Verdict::Refused { number, place } => Outcome::Refused { number, place },
+        }
+    }
+
     // COUNT: 0 where judging was refused.
     pub fn count(self) -> u32
         ensures { λ r. ⌜ r ≡ valuesOf self .count ⌝ }

@@ -5,7 +5,8 @@ ghost use Prim.Native.Nat.{ℕ, _+_, _-_, _*_, _/_, _^_, _≤_, _<_, min};
 ghost use mathlib.Core.Path.{_≡_};
 ghost use lib.ListN.{length, getD};
 ghost use Rattle.tasks.specs.Limits.{maxTasks, maxPeriod};
-ghost use Rattle.edzl.specs.Window.{interference, sumTo};
+ghost use Rattle.edzl.specs.Window.{interference};
+ghost use Rattle.edzl.specs.Sums.{sumTo};
 
 // What an inverse is scaled by, 2^40: enough that for periods and windows up to 1,000,000 the quotient is exact.
 const SCALE: u64 = 1_099_511_627_776;

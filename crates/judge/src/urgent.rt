@@ -12,8 +12,9 @@ ghost use lib.ListN.{getD};
 ghost use Rattle.tasks.specs.Limits.{maxTasks, maxCores, maxPeriod};
 ghost use Rattle.tasks.specs.Task.{inRange};
 ghost use Rattle.tasks.specs.Table.{zeroTask};
-ghost use Rattle.edzl.specs.Window.{sumTo, bit, countUrgent, noSlack};
-ghost use Rattle.judge.specs.TaskSet.{firstTasks};
+ghost use Rattle.edzl.specs.Sums.{sumTo, bit};
+ghost use Rattle.edzl.specs.Window.{countUrgent, noSlack};
+ghost use Rattle.tasks.specs.TaskSet.{firstTasks};
 
 // What a task counts for in its own sum: in a window of its deadline it interferes by its budget.
 fn own_part(budget: u32, spare: u32) -> u64

@@ -13,13 +13,14 @@ use Rattle.tasks.specs.Limits.{maxTasks}
 use Rattle.tasks.specs.Refusals.{unsoundMachine, taskOutOfRange, noSuchTask, releasedTooSoon, jobStillOpen, jobNotOpen, tableFull}
 use Rattle.tasks.specs.Task.{inRange}
 use Rattle.tasks.specs.Table.{withTask}
-use Rattle.edzl.proofs.Cases.{not-both}
+use Rattle.edzl.proofs.CaseSplits.{not-both}
 use Rattle.judge.specs.Judge.{Values, judged}
-use Rattle.machine.specs.Job.{closedJob, taskAt, jobAt}
+use Rattle.job.specs.Job.{closedJob, releasedJob}
+use Rattle.machine.specs.Machine.{taskAt, jobAt, inTable, withJob}
 use Rattle.machine.specs.Slot.{noReport, slotReport, afterSlot}
 use Rattle.machine.specs.Sound.{sound}
-use Rattle.machine.specs.Calls.{done, refuse, inTable, withJob, releasedJob, withJoined, joinAfter, release, finish, slot, join, step}
-use Rattle.machine.specs.declared.job.Machine.{Machine}
+use Rattle.machine.specs.Calls.{done, refuse, withJoined, joinAfter, release, finish, slot, join, step}
+use Rattle.machine.specs.declared.machine.Machine.{Machine}
 use Rattle.machine.specs.declared.call.Call.{Call}
 use Rattle.machine.specs.declared.call.Call.the-variants.{Release, Finish, Slot, Join}
 use Rattle.machine.specs.declared.answer.Answer.{Answer}

@@ -8,19 +8,20 @@ use native.Mathlib.Omega.{arith}
 use borrow.Author.Tests.{eq-eqb}
 use Rattle.tasks.specs.declared.task.Task.{Task}
 use Rattle.tasks.specs.Table.{withTask}
-use Rattle.edzl.specs.Window.{bit}
-use Rattle.edzl.proofs.Cases.{by-order, by-equal, by-test, not-both}
+use Rattle.edzl.specs.Sums.{bit}
+use Rattle.edzl.proofs.CaseSplits.{by-order, by-equal, by-test, not-both}
 use Rattle.edzl.proofs.SumLaws.{bit-true, bit-false}
 use Rattle.edzl.proofs.Invariant.{SameJob}
-use Rattle.judge.specs.TaskSet.{firstTasks, tasksOf}
-use Rattle.machine.specs.Job.{jobAt}
+use Rattle.tasks.specs.TaskSet.{firstTasks, tasksOf}
+use Rattle.machine.specs.Machine.{jobAt, withJob}
 use Rattle.machine.specs.Pick.{runners}
 use Rattle.machine.specs.Slot.{noReport, slotReport, afterSlot}
-use Rattle.machine.specs.Sound.{isDone, sound}
-use Rattle.machine.specs.Calls.{withJob, withJoined}
+use Rattle.tasks.specs.Outcome.{isDone}
+use Rattle.machine.specs.Sound.{sound}
+use Rattle.machine.specs.Calls.{withJoined}
 use Rattle.machine.specs.Play.{Entry, play}
 use Rattle.machine.specs.InTime.{isSlot, isFinishOf, acceptedSlot, acceptedFinish, saysRan, saysFinished, slotCount}
-use Rattle.machine.specs.declared.job.Machine.{Machine}
+use Rattle.machine.specs.declared.machine.Machine.{Machine}
 use Rattle.machine.specs.declared.call.Call.{Call}
 use Rattle.machine.specs.declared.call.Call.the-variants.{Release, Finish, Slot, Join}
 use Rattle.machine.specs.declared.answer.Answer.{Answer}

@@ -6,14 +6,16 @@ use mathlib.Core.List.{List, [], _∷_}
 use lib.ListN.{getD}
 use native.Mathlib.Omega.{arith}
 use Rattle.tasks.specs.declared.table.Table.{Table}
-use Rattle.edzl.proofs.Cases.{by-test, not-both}
-use Rattle.machine.specs.Job.{taskAt}
+use Rattle.edzl.proofs.CaseSplits.{by-test, not-both}
+use Rattle.machine.specs.Machine.{taskAt, withJob}
 use Rattle.machine.specs.Slot.{slotReport, afterSlot}
-use Rattle.machine.specs.Sound.{isDone, sound}
-use Rattle.machine.specs.Calls.{withJob, releasedJob, withJoined, step}
+use Rattle.tasks.specs.Outcome.{isDone}
+use Rattle.machine.specs.Sound.{sound}
+use Rattle.job.specs.Job.{releasedJob}
+use Rattle.machine.specs.Calls.{withJoined, step}
 use Rattle.machine.specs.Play.{play}
 use Rattle.machine.specs.InTime.{slotCount, joinedBy, closedBySlot, InTime, Promise}
-use Rattle.machine.specs.declared.job.Machine.{Machine}
+use Rattle.machine.specs.declared.machine.Machine.{Machine}
 use Rattle.machine.specs.declared.call.Call.{Call}
 use Rattle.machine.proofs.State.{jobsOf}
 use Rattle.machine.proofs.SlotStep.{late-is, Late}

@@ -4,10 +4,10 @@ use mathlib.Core.Path.{_≡_}
 use lib.ListN.{length}
 use lib.Seq.{getD-set-same, getD-set-other}
 use Rattle.edzl.proofs.Invariant.{SameJob}
-use Rattle.machine.specs.Job.{freshJob, jobAt}
-use Rattle.machine.specs.Calls.{withJob}
-use Rattle.machine.specs.declared.job.Job.{Job}
-use Rattle.machine.specs.declared.job.Machine.{Machine}
+use Rattle.job.specs.Job.{freshJob}
+use Rattle.machine.specs.Machine.{jobAt, withJob}
+use Rattle.job.specs.declared.job.Job.{Job}
+use Rattle.machine.specs.declared.machine.Machine.{Machine}
 use Rattle.machine.proofs.State.{jobsOf}
 
 pub same-job : (m m' : Machine) (i : ℕ) → jobAt m' i ≡ jobAt m i → SameJob (jobsOf m) (jobsOf m') i

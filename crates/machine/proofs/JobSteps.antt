@@ -10,14 +10,14 @@ use Rattle.tasks.proofs.Checked.{passes}
 use Rattle.edzl.proofs.WellFormed.{WellFormed}
 use Rattle.edzl.proofs.Release.{Released}
 use Rattle.edzl.proofs.Finish.{Finished}
-use Rattle.judge.specs.TaskSet.{firstTasks, tasksOf}
-use Rattle.machine.specs.Job.{closedJob, taskAt, jobAt}
+use Rattle.tasks.specs.TaskSet.{firstTasks, tasksOf}
+use Rattle.job.specs.Job.{closedJob, releasedJob}
+use Rattle.machine.specs.Machine.{taskAt, jobAt}
 use Rattle.machine.specs.Sound.{sound}
-use Rattle.machine.specs.Calls.{releasedJob}
-use Rattle.machine.specs.declared.job.Machine.{Machine}
+use Rattle.machine.specs.declared.machine.Machine.{Machine}
 use Rattle.machine.proofs.State.{jobsOf}
 use Rattle.machine.proofs.JobPlaces.{job-set, rest-same}
-use Rattle.machine.proofs.TableFits.{sound-checks, sound-fits}
+use Rattle.machine.proofs.SoundLaws.{sound-checks, sound-fits}
 use Rattle.machine.proofs.CallCases.{NumberFits, ReleaseTaken, FinishTaken, afterRelease, afterFinish}
 
 module _ (m : Machine) (all-jobs : length (m .jobs) ≡ maxTasks) (number : ℕ) where

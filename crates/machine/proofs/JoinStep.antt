@@ -11,10 +11,11 @@ use Rattle.tasks.specs.Limits.{maxTasks}
 use Rattle.tasks.specs.Table.{zeroTask, withTask}
 use Rattle.edzl.proofs.WindowLaws.{SameTask}
 use Rattle.edzl.proofs.Join.{Joined}
-use Rattle.judge.specs.TaskSet.{firstTasks, tasksOf}
-use Rattle.machine.specs.Job.{freshJob, jobAt}
+use Rattle.tasks.specs.TaskSet.{firstTasks, tasksOf}
+use Rattle.job.specs.Job.{freshJob}
+use Rattle.machine.specs.Machine.{jobAt}
 use Rattle.machine.specs.Calls.{withJoined}
-use Rattle.machine.specs.declared.job.Machine.{Machine}
+use Rattle.machine.specs.declared.machine.Machine.{Machine}
 use Rattle.machine.proofs.State.{jobsOf}
 use Rattle.machine.proofs.JobPlaces.{same-job}
 

@@ -11,21 +11,26 @@ use Rattle.tasks.specs.declared.table.Table.{Table}
 use Rattle.tasks.specs.Limits.{maxTasks}
 use Rattle.tasks.specs.Table.{withTask}
 use Rattle.tasks.proofs.Checked.{passes}
-use Rattle.edzl.specs.Window.{bit, admitted}
+use Rattle.edzl.specs.Sums.{bit}
+use Rattle.edzl.specs.Window.{admitted}
 use Rattle.edzl.proofs.Invariant.{Fresh}
 use Rattle.edzl.proofs.NoSlack.{Safe, safe-fresh, safe-release, safe-finish, safe-slot, on-time, safe-join}
-use Rattle.judge.specs.TaskSet.{firstTasks, tasksOf}
+use Rattle.tasks.specs.TaskSet.{firstTasks, tasksOf}
 use Rattle.judge.specs.Judge.{judged}
-use Rattle.machine.specs.Job.{freshJob, jobAt}
+use Rattle.job.specs.Job.{freshJob}
+use Rattle.machine.specs.Machine.{jobAt, withJob}
 use Rattle.machine.specs.Pick.{runners}
 use Rattle.machine.specs.Slot.{replaced, afterSlot}
 use Rattle.machine.specs.Sound.{sound}
-use Rattle.machine.specs.Calls.{done, startAfter, start, withJob, withJoined, step}
-use Rattle.machine.specs.declared.job.Machine.{Machine}
+use Rattle.machine.specs.Calls.{done, startAfter, start, withJoined, step}
+use Rattle.machine.specs.declared.machine.Machine.{Machine}
 use Rattle.machine.specs.declared.call.Call.{Call}
 use Rattle.machine.proofs.State.{jobsOf}
 use Rattle.machine.proofs.SlotStep.{slot-step}
-use Rattle.machine.proofs.TableFits.{Admits, admits-means, well-checked, sound-fits}
+use Rattle.tasks.proofs.TaskSetLaws.{well-checked}
+use Rattle.judge.proofs.Admits.{Admits, admits-means}
+use Rattle.machine.proofs.ListLaws.{length-replaced}
+use Rattle.machine.proofs.SoundLaws.{sound-fits}
 use Rattle.machine.proofs.CallCases.{NumberFits, ReleaseTaken, FinishTaken, JoinTaken, afterRelease, afterFinish, by-call}
 use Rattle.machine.proofs.JobSteps.{release-step, finish-step}
 use Rattle.machine.proofs.JoinStep.{join-step}
@@ -68,11 +73,6 @@ module _ (t : Table) (cores : ℕ) (yes-admitted : judged t cores .admits ≡ tr
         admits = means .admits;
         all-jobs = length-replicate maxTasks freshJob;
       }
-
-length-replaced : {A : Type 0} (n : ℕ) (f : ℕ → A) (l : List A) → length (replaced n f l) ≡ length l
-unfolding replaced
-length-replaced zero f l = refl
-length-replaced (suc n) f l = length-set (replaced n f l) n (f n) ∙ length-replaced n f l
 
 module _ (m : Machine) (kept : Kept m) where
   in-table : (number : ℕ) → NumberFits m number → number - 1 < tasksOf (m .table) .count

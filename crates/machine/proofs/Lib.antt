@@ -1,15 +1,11 @@
 pub mod State
 pub mod ListLaws
 pub mod SoundLaws
-pub mod Order
-pub mod Next
-pub mod Search
 pub mod PickLaws
-pub mod RankLaws
+pub mod RanksLaws
 pub mod SlotStep
 pub mod CallCases
 pub mod TaskNumbers
-pub mod TableFits
 pub mod JobPlaces
 pub mod JobSteps
 pub mod JoinStep

@@ -6,7 +6,7 @@ use mathlib.Core.List.{List}
 use native.Mathlib.Omega.{arith}
 use lib.ListN.{getD, set, length, replicate, length-set, length-replicate, getD-replicate, List·getD-eq-default}
 use lib.Seq.{getD-set-same, getD-set-other, ext-getD}
-use Rattle.edzl.proofs.Cases.{by-order, by-equal}
+use Rattle.edzl.proofs.CaseSplits.{by-order, by-equal}
 use Rattle.machine.specs.Slot.{replaced}
 
 -- In a list of one value, read with that value as the default, no index finds another.

@@ -8,7 +8,7 @@ use mathlib.Core.List.{List, _∷_}
 use mir.Val.{boolByte}
 use lib.ListN.{length, getD, drop, drop-of-length-le}
 use lib.Seq.{drop-cons}
-use Rattle.edzl.specs.Window.{bit}
+use Rattle.edzl.specs.Sums.{bit}
 use Rattle.machine.specs.Mask.{mask}
 
 -- the sum so far is the mask of the entries from i on, and leaves room for the i before

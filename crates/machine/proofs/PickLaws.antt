@@ -1,39 +1,29 @@
 -- The pick is a legal choice of runners. Others cite: `runners-legal`; `runner-in` and `runner-open`, that a runner is an open task of the table;
--- `runners-number`, how many there are; `waits-open`, that a waiting task is open; `length-pick`; and `next-in`, that while fewer are picked than are
--- open the next runner is a task of the table.
+-- `runners-number`, how many there are; `waits-open`, that a waiting task is open; `length-pick`; and `Runner` with `next-in`, that while fewer are
+-- picked than are open the next runner is a task of the table that waits.
 use Prim.Native.Nat.{ℕ, zero, suc, _≤_, _<_}
-use mathlib.Core.Path.{_≡_, sym, _∙_, subst}
+use mathlib.Core.Path.{_≡_, refl, sym, _∙_, subst}
 use mathlib.Core.Bool.{Bool, true, false, and-eq-true-iff}
 use mathlib.Core.List.{List}
 use mathlib.Core.Logic.{inl, inr}
 use native.Mathlib.Omega.{arith}
-use lib.ListN.{getD, length, length-set, length-replicate}
+use lib.ListN.{getD, set, length, length-set, length-replicate}
 use lib.Seq.{getD-set-same, getD-set-other}
-use borrow.Author.Tests.{not-true}
-use Rattle.edzl.specs.Window.{sumTo, bit}
-use Rattle.edzl.proofs.Cases.{by-order, by-equal, by-test, not-both}
-use Rattle.edzl.proofs.SumLaws.{sum-same, sum-strict, sum-bound, bit-true, bit-false, bit-monotone}
-use Rattle.edzl.proofs.Choice.{LegalChoice}
+use borrow.Author.Tests.{not-true, le-leb, lt-leb}
+use Rattle.edzl.specs.Sums.{sumTo, bit}
+use Rattle.edzl.proofs.CaseSplits.{by-order, by-equal, by-test, not-both}
+use Rattle.edzl.proofs.SumLaws.{sum-strict, sum-bound, sum-one-more, bit-true, bit-false, bit-monotone}
+use Rattle.edzl.proofs.Choice.{Beats, more-urgent, both-urgent, neither-urgent, LegalChoice}
 use Rattle.tasks.specs.Limits.{maxTasks}
-use Rattle.machine.specs.Job.{jobAt}
-use Rattle.machine.specs.Precedence.{precedes}
-use Rattle.machine.specs.Pick.{openCount, waiting, nextRunner, pick, runnerCount, runners}
-use Rattle.machine.specs.declared.job.Machine.{Machine}
+use Rattle.job.specs.Job.{isUrgent}
+use Rattle.job.specs.Search.{nextRunner}
+use Rattle.job.proofs.Order.{by-urgency, by-left, holds, precedes-not-self, precedes-trans}
+use Rattle.job.proofs.Next.{Strict, next-runner}
+use Rattle.machine.specs.Machine.{jobAt}
+use Rattle.machine.specs.Pick.{openCount, waiting, precedes, candidates, withPicked, pick, runnerCount, runners}
+use Rattle.machine.specs.declared.machine.Machine.{Machine}
 use Rattle.machine.proofs.State.{jobsOf}
 use Rattle.machine.proofs.ListLaws.{replicate-entry}
-use Rattle.machine.proofs.Order.{beats-precedes}
-use Rattle.machine.proofs.Next.{Behind, Next, next-runner}
-
--- A sum with 1 more at r.
-sum-one-more : (f g : ℕ → ℕ) (r n : ℕ) → r < n → g r ≡ suc (f r) → ((i : ℕ) → (i ≡ r → ⊥) → g i ≡ f i) → sumTo n g ≡ suc (sumTo n f)
-unfolding sumTo
-sum-one-more f g r zero h at off = absurd (omega arith)
-sum-one-more f g r (suc n) h at off =
-    by-equal r n
-    (λ e.
-    let last : g n ≡ suc (f n) = subst (λ (j : ℕ). g j ≡ suc (f j)) e at in
-    omega (arith, sum-same g f n (λ i l. off i (omega arith))))
-    (λ ne. omega (arith, sum-one-more f g r n (omega arith) at off, off n (omega arith)))
 
 -- Task i is one of the first k in precedence.
 abbrev isPicked : Machine → (k i : ℕ) → Bool
@@ -71,6 +61,46 @@ some-waits m picked (suc n) h =
     let (i, inside, w) = some-waits m picked n (omega (arith, bits-apart m picked n c)) in
     (i, omega arith, w))
 
+-- Where task x waits, it does not precede task y.
+abbrev Behind : Machine → (picked : List Bool) → (y x : ℕ) → Type 0
+Behind m picked y x = waiting m picked x ≡ true → precedes m x y ≡ false
+
+-- The next runner, as an index: it waits, and no waiting task precedes it.
+pub record Runner (m : Machine) (picked : List Bool) : Type 0 where
+  pub index : ℕ
+  pub number-is : nextRunner (candidates m picked) ≡ suc index
+  pub inside : index < m .table .count
+  pub waits : waiting m picked index ≡ true
+  pub first : (x : ℕ) → x < m .table .count → Behind m picked index x
+
+strict : (m : Machine) (picked : List Bool) → Strict (candidates m picked)
+unfolding candidates precedes
+strict m picked =
+    record {
+      not-self = λ i. precedes-not-self (jobAt m i) i;
+      trans = λ i j k. precedes-trans (jobAt m i) i (jobAt m j) j (jobAt m k) k;
+    }
+
+runner-of : (m : Machine) (picked : List Bool) (i : ℕ) → i < m .table .count → waiting m picked i ≡ true → Runner m picked
+unfolding candidates
+runner-of m picked i h w =
+    let found = next-runner (candidates m picked) (strict m picked) i h w in
+    record {
+      index = found .index;
+      number-is = found .number-is;
+      inside = found .next .inside;
+      waits = found .next .waits;
+      first = found .next .first;
+    }
+
+-- An open task that beats another in the theory's sense precedes it.
+module _ (m : Machine) (x y : ℕ) (open-x : jobAt m x .«open» ≡ true) (open-y : jobAt m y .«open» ≡ true) where
+  beats-precedes : Beats (jobsOf m) x y → precedes m x y ≡ true
+  unfolding jobsOf isUrgent precedes
+  beats-precedes (more-urgent u c) = holds _ x _ y (by-urgency (rw (open-x, le-leb _ _ u)) (rw (open-y, lt-leb _ _ c)))
+  beats-precedes (both-urgent u v l) = holds _ x _ y (by-left (rw (open-x, le-leb _ _ u, open-y, le-leb _ _ v)) l)
+  beats-precedes (neither-urgent c d l) = holds _ x _ y (by-left (rw (open-x, lt-leb _ _ c, open-y, lt-leb _ _ d)) l)
+
 -- What holds of the first k picks: they are open tasks of the table, k in number, and no task that still waits precedes one of them.
 record Picked (m : Machine) (k : ℕ) : Type 0 where
   inside : (i : ℕ) → isPicked m k i ≡ true → i < m .table .count
@@ -78,11 +108,16 @@ record Picked (m : Machine) (k : ℕ) : Type 0 where
   number : sumTo (m .table .count) (λ i. bit (isPicked m k i)) ≡ k
   first : (y : ℕ) → isPicked m k y ≡ true → (x : ℕ) → x < m .table .count → Behind m (pick m k) y x
 
+length-with : (picked : List Bool) (number : ℕ) → length (withPicked picked number) ≡ length picked
+unfolding withPicked
+length-with picked zero = refl
+length-with picked (suc i) = length-set picked i true
+
 module _ (m : Machine) where
   pub length-pick : (k : ℕ) → length (pick m k) ≡ maxTasks
   unfolding pick
   length-pick zero = length-replicate maxTasks false
-  length-pick (suc k) = length-set (pick m k) _ true ∙ length-pick k
+  length-pick (suc k) = length-with (pick m k) _ ∙ length-pick k
 
   none-picked : (i : ℕ) → isPicked m 0 i ≡ false
   unfolding pick
@@ -104,22 +139,25 @@ module _ (m : Machine) where
 
 module _ (m : Machine) (fits : m .table .count ≤ maxTasks) where
   module _ (k : ℕ) (picked : Picked m k) (more : k < openCount m) where
-    runner : ℕ
-    runner = nextRunner m (pick m k)
-
-    next : Next m (pick m k) (m .table .count) runner
-    unfolding openCount runner
+    next : Runner m (pick m k)
+    unfolding openCount
     next =
         let (i, inside, waits) = some-waits m (pick m k) (m .table .count) (omega (arith, picked .number)) in
-        next-runner m (pick m k) i inside waits
+        runner-of m (pick m k) i inside waits
+
+    runner : ℕ
+    runner = next .index
+
+    picks-one : pick m (suc k) ≡ set (pick m k) runner true
+    unfolding pick withPicked runner
+    picks-one = rw (next .number-is)
 
     now-picked : isPicked m (suc k) runner ≡ true
-    unfolding pick runner
-    now-picked = getD-set-same (pick m k) runner true false (omega (arith, length-pick m k, next .inside))
+    unfolding runner
+    now-picked = rw picks-one (getD-set-same (pick m k) runner true false (omega (arith, length-pick m k, next .inside)))
 
     others-same : (i : ℕ) → (i ≡ runner → ⊥) → isPicked m (suc k) i ≡ isPicked m k i
-    unfolding pick runner
-    others-same i ne = getD-set-other (pick m k) runner i true false ne
+    others-same i ne = rw picks-one (getD-set-other (pick m k) runner i true false ne)
 
     -- What holds of the new runner and of those before it holds of all.
     each : (P : ℕ → Type 0) → P runner → ((i : ℕ) → isPicked m k i ≡ true → P i) → (i : ℕ) → isPicked m (suc k) i ≡ true → P i
@@ -130,6 +168,7 @@ module _ (m : Machine) (fits : m .table .count ≤ maxTasks) where
 
     -- What waits now did so before.
     waited : (i : ℕ) → waiting m (pick m (suc k)) i ≡ true → waiting m (pick m k) i ≡ true
+    unfolding runner
     waited i w =
         open-waits m (pick m k) i (waits-open m (pick m (suc k)) i w)
         (by-equal i runner
@@ -137,6 +176,7 @@ module _ (m : Machine) (fits : m .table .count ≤ maxTasks) where
         (λ ne. sym (others-same i ne) ∙ waits-unpicked m (pick m (suc k)) i w))
 
     picked-more : Picked m (suc k)
+    unfolding runner
     picked-more =
         record {
           inside = each (λ i. i < m .table .count) (next .inside) (picked .inside);
@@ -165,9 +205,8 @@ module _ (m : Machine) (fits : m .table .count ≤ maxTasks) where
   picks zero h = picked-none m
   picks (suc k) h = picked-more k (picks k (omega arith)) h
 
-  pub next-in : (k : ℕ) → k < openCount m → nextRunner m (pick m k) < m .table .count
-  unfolding runner
-  next-in k more = next k (picks k (omega arith)) more .inside
+  pub next-in : (k : ℕ) → k < openCount m → Runner m (pick m k)
+  next-in k more = next k (picks k (omega arith)) more
 
   all-runners : Picked m (runnerCount m)
   unfolding runnerCount

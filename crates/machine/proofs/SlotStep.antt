@@ -7,51 +7,25 @@ use native.Mathlib.Omega.{arith}
 use lib.Dec.{eqb}
 use lib.ListN.{getD, length, replicate, length-replicate, List·getD-eq-default}
 use borrow.Author.Tests.{eqb-true, eqb-false, eq-eqb, ne-eqb, not-true}
-use Rattle.edzl.specs.Window.{bit}
-use Rattle.edzl.proofs.Cases.{by-order, by-equal, by-test, not-both}
+use Rattle.edzl.specs.Sums.{bit}
+use Rattle.edzl.proofs.CaseSplits.{by-order, by-equal, by-test, not-both}
 use Rattle.edzl.proofs.Invariant.{NoJob}
 use Rattle.edzl.proofs.Slot.{StillOpen, SlotEffect, Slotted}
 use Rattle.tasks.specs.Limits.{maxTasks}
-use Rattle.judge.specs.TaskSet.{firstTasks, tasksOf}
-use Rattle.machine.specs.Job.{freshJob, closedJob, jobAt}
+use Rattle.tasks.specs.TaskSet.{firstTasks, tasksOf}
+use Rattle.job.specs.Job.{freshJob, closedJob}
+use Rattle.machine.specs.Machine.{jobAt}
 use Rattle.machine.specs.Pick.{runners}
-use Rattle.machine.specs.Slot.{charged, aged, passed, isFinished, isLate, settled, replaced, slotReport, afterSlot}
+use Rattle.job.specs.Slot.{charged, aged, isFinished, isLate, settled}
+use Rattle.machine.specs.Slot.{passed, replaced, slotReport, afterSlot}
 use Rattle.machine.specs.Sound.{sound}
-use Rattle.machine.specs.declared.job.Job.{Job}
-use Rattle.machine.specs.declared.job.Machine.{Machine}
+use Rattle.job.specs.declared.job.Job.{Job}
+use Rattle.machine.specs.declared.machine.Machine.{Machine}
+use Rattle.job.proofs.SlotLaws.{settled-gap, settled-closed, settled-finished, settled-late, settled-open, fresh-stays}
 use Rattle.machine.proofs.State.{jobsOf}
 use Rattle.machine.proofs.ListLaws.{replicate-entry, replaced-at, replaced-past, replaced-short}
 use Rattle.machine.proofs.SoundLaws.{sound-passes, sound-closed}
 use Rattle.machine.proofs.PickLaws.{runner-in, runner-open, runners-legal}
-
--- Step 4, by the state of the job before it.
-module _ (j : Job) where
-  settled-gap : settled j .gap ≡ j .gap
-  unfolding settled closedJob
-  settled-gap = by-test (isFinished j || isLate j) (λ e. rw e) (λ e. rw e)
-
-  settled-closed : j .«open» ≡ false → settled j ≡ j
-  unfolding settled isFinished isLate
-  settled-closed c = rw c
-
-  module _ (o : j .«open» ≡ true) where
-    settled-finished : j .budget ≡ 0 → settled j ≡ closedJob j
-    unfolding settled isFinished
-    settled-finished e = rw (o, eq-eqb _ _ e)
-
-    settled-late : (j .budget ≡ 0 → ⊥) → j .left ≡ 0 → settled j ≡ closedJob j
-    unfolding settled isFinished isLate
-    settled-late ne e = rw (o, ne-eqb _ _ ne, eq-eqb _ _ e)
-
-    settled-open : (j .budget ≡ 0 → ⊥) → (j .left ≡ 0 → ⊥) → settled j ≡ j
-    unfolding settled isFinished isLate
-    settled-open ne more = rw (o, ne-eqb _ _ ne, ne-eqb _ _ more)
-
--- A fresh job, as is read past the end of the list of jobs, stays one.
-fresh-stays : (ran : Bool) → settled (aged (charged ran freshJob)) ≡ freshJob
-unfolding settled isFinished isLate aged charged freshJob bit
-fresh-stays true = refl
-fresh-stays false = refl
 
 module _ (m : Machine) where
   fresh-after : (i : ℕ) → jobAt m i ≡ freshJob → settled (passed m i) ≡ freshJob

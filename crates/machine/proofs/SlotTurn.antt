@@ -9,11 +9,13 @@ use native.Mathlib.Numerals.{add-one}
 use lib.ListN.{getD, set, replicate}
 use Rattle.tasks.specs.declared.outcome.Outcome.the-variants.{Done}
 use Rattle.tasks.specs.Limits.{maxTasks}
-use Rattle.machine.specs.Job.{freshJob, jobAt}
+use Rattle.job.specs.Job.{freshJob}
+use Rattle.machine.specs.Machine.{jobAt}
 use Rattle.machine.specs.Pick.{runners, runnerCount}
-use Rattle.machine.specs.Slot.{charged, aged, passed, isFinished, isLate, settled, replaced, slotReport, afterSlot}
-use Rattle.machine.specs.declared.job.Job.{Job}
-use Rattle.machine.specs.declared.job.Machine.{Machine}
+use Rattle.job.specs.Slot.{charged, aged, isFinished, isLate, settled}
+use Rattle.machine.specs.Slot.{passed, replaced, slotReport, afterSlot}
+use Rattle.job.specs.declared.job.Job.{Job}
+use Rattle.machine.specs.declared.machine.Machine.{Machine}
 use Rattle.machine.specs.declared.answer.Answer.{Answer}
 use Rattle.machine.proofs.ListLaws.{replaced-past}
 

@@ -1,7 +1,7 @@
 -- The machine's jobs as the theory's functions of an index.
 use Rattle.edzl.proofs.Invariant.{Jobs}
-use Rattle.machine.specs.Job.{jobAt}
-use Rattle.machine.specs.declared.job.Machine.{Machine}
+use Rattle.machine.specs.Machine.{jobAt}
+use Rattle.machine.specs.declared.machine.Machine.{Machine}
 
 unfoldable pub jobsOf : Machine → Jobs
 jobsOf m =

@@ -4,8 +4,8 @@ use native.Mathlib.Omega.{arith}
 use mathlib.Core.Path.{_≡_}
 use mathlib.Core.Bool.{true}
 use Rattle.machine.specs.Sound.{sound}
-use Rattle.machine.specs.Calls.{inTable}
-use Rattle.machine.specs.declared.job.Machine.{Machine}
+use Rattle.machine.specs.Machine.{inTable}
+use Rattle.machine.specs.declared.machine.Machine.{Machine}
 use Rattle.machine.proofs.SoundLaws.{sound-passes}
 use Rattle.machine.proofs.CallCases.{number-fits}
 

@@ -1,6 +1,6 @@
 -- The calls of the machine: document 01, "The slot machine" and "Why a call is not carried out".
 use Prim.Native.Nat.{ℕ, _-_}
-use mathlib.Core.Bool.{Bool, true, cond, not, _&&_}
+use mathlib.Core.Bool.{Bool, cond, not}
 use lib.Dec.{leb, ltb}
 use lib.ListN.{set, replicate}
 use Rattle.tasks.specs.declared.task.Task.{Task}
@@ -13,11 +13,11 @@ use Rattle.tasks.specs.Task.{inRange}
 use Rattle.tasks.specs.Table.{withTask}
 use Rattle.tasks.specs.Check.{checked}
 use Rattle.judge.specs.Judge.{judged}
-use Rattle.machine.specs.Job.{freshJob, closedJob, zeroMachine, taskAt, jobAt}
+use Rattle.job.specs.Job.{freshJob, releasedJob, closedJob}
+use Rattle.machine.specs.Machine.{zeroMachine, taskAt, jobAt, withJob, inTable}
 use Rattle.machine.specs.Slot.{noReport, slotReport, afterSlot}
 use Rattle.machine.specs.Sound.{sound}
-use Rattle.machine.specs.declared.job.Job.{Job}
-use Rattle.machine.specs.declared.job.Machine.{Machine}
+use Rattle.machine.specs.declared.machine.Machine.{Machine}
 use Rattle.machine.specs.declared.call.Call.{Call}
 use Rattle.machine.specs.declared.call.Call.the-variants.{Release, Finish, Slot, Join}
 use Rattle.machine.specs.declared.answer.Answer.{Answer}
@@ -39,18 +39,6 @@ startAfter (Refused number place) t cores =
 -- "Judging or starting a given table"
 unfoldable pub start : Table → (cores : ℕ) → Answer
 start t cores = startAfter (checked t cores) t cores
-
--- "The task number is not in the table", the other way round
-unfoldable pub inTable : Machine → (number : ℕ) → Bool
-inTable m number = leb 1 number && leb number (m .table .count)
-
--- the machine with another job at an index
-unfoldable pub withJob : Machine → ℕ → Job → Machine
-withJob m i j = record { table = m .table; cores = m .cores; jobs = set (m .jobs) i j }
-
--- "it becomes open, left = D_i, budget = C_i, gap = T_i"
-unfoldable pub releasedJob : Task → Job
-releasedJob t = record { «open» = true; left = t .deadline; budget = t .budget; gap = t .period }
 
 -- "Release: 8, 9, 10", after 0
 unfoldable pub release : Machine → (number : ℕ) → Answer

@@ -10,7 +10,7 @@ use Rattle.tasks.specs.declared.table.Table.{Table}
 use Rattle.tasks.specs.Table.{emptyTable, withTask}
 use Rattle.judge.specs.Judge.{judged}
 use Rattle.machine.specs.Mask.{mask}
-use Rattle.machine.specs.Sound.{isDone}
+use Rattle.tasks.specs.Outcome.{isDone}
 use Rattle.machine.specs.Calls.{start}
 use Rattle.machine.specs.Play.{Entry, play}
 use Rattle.machine.specs.InTime.{acceptedSlot}

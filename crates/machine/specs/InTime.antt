@@ -9,7 +9,7 @@ use lib.ListN.{getD}
 use Rattle.tasks.specs.declared.task.Task.{Task}
 use Rattle.tasks.specs.declared.table.Table.{Table}
 use Rattle.tasks.specs.Table.{zeroTask, withTask}
-use Rattle.machine.specs.Sound.{isDone}
+use Rattle.tasks.specs.Outcome.{isDone}
 use Rattle.judge.specs.Judge.{judged}
 use Rattle.machine.specs.Calls.{start}
 use Rattle.machine.specs.Play.{Entry, play}

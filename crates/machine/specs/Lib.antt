@@ -1,8 +1,7 @@
-pub mod Job
-pub mod Precedence
+pub mod Machine
 pub mod Pick
 pub mod Slot
-pub mod Rank
+pub mod Ranks
 pub mod Sound
 pub mod Calls
 pub mod Play

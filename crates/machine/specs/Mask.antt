@@ -2,7 +2,7 @@
 use Prim.Native.Nat.{ℕ, _+_, _*_}
 use mathlib.Core.Bool.{Bool}
 use mathlib.Core.List.{List, [], _∷_}
-use Rattle.edzl.specs.Window.{bit}
+use Rattle.edzl.specs.Sums.{bit}
 
 -- "the sum of 2 to the power (task number − 1)"
 unfoldable pub mask : List Bool → ℕ

@@ -1,5 +1,5 @@
 // What a call answers.
-use crate::job::Machine;
+use crate::machine::Machine;
 use tasks::limits::MAX_TASKS;
 use tasks::outcome::Outcome;
 ghost use mathlib.Core.Path.{_≡_};

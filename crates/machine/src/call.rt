@@ -1,6 +1,6 @@
 // The calls of the machine, and one step by a call.
 use crate::answer::Answer;
-use crate::job::Machine;
+use crate::machine::Machine;
 use tasks::task::Task;
 ghost use mathlib.Core.Path.{_≡_};
 ghost use Rattle.machine.specs.Calls.{step};

@@ -1,11 +1,10 @@
 // A join.
 use crate::answer::Answer;
 use crate::answer::Report;
-use crate::calls::fresh_job;
-use crate::job::Machine;
+use crate::machine::Machine;
+use job::job::fresh_job;
 use judge::Verdict;
 use tasks::limits::MAX_TASKS;
-use tasks::outcome::Outcome;
 use tasks::refusals::NOT_ADMITTED;
 use tasks::refusals::TABLE_FULL;
 use tasks::refusals::TASK_OUT_OF_RANGE;
@@ -13,14 +12,13 @@ use tasks::refusals::UNSOUND_MACHINE;
 use tasks::task::Task;
 ghost use Prim.Native.Nat.{_<_};
 ghost use mathlib.Core.Path.{_≡_};
-ghost use Rattle.judge.specs.Judge.{valuesOf};
-ghost use Rattle.machine.specs.Slot.{noReport};
+ghost use Rattle.tasks.specs.Limits.{maxTasks};
 ghost use Rattle.machine.specs.Calls.{withJoined, join};
 
 impl Machine {
     // The machine with the task at the end of its table, closed.
     fn with_joined(mut self, task: Task) -> Self
-        requires { ⌜ self .table .count < 32 ⌝ }
+        requires { ⌜ self .table .count < maxTasks ⌝ }
         ensures { λ r. ⌜ r ≡ withJoined self task ⌝ }
     {
         let mut table = self.table;
@@ -30,28 +28,6 @@ impl Machine {
         self.table = table;
         self.jobs[count] = fresh_job();
         self
-    }
-
-    // The judge's own refusal, handed on with the machine as it is.
-    fn denied(self, verdict: Verdict) -> Answer
-        ensures { λ r. ⌜ r ≡ record { machine = self; outcome = valuesOf verdict .outcome; report = noReport } ⌝ }
-    {
-        let report = Report::none();
-        match verdict {
-            Verdict::Refused { number, place } => Answer {
-                machine: self,
-                outcome: Outcome::Refused { number, place },
-                report,
-            },
-            Verdict::Judged {
-                count: _,
-                admitted: _,
-            } => Answer {
-                machine: self,
-                outcome: Outcome::Done,
-                report,
-            },
-        }
     }
 
     // A task joins, if the longer table is admitted on the machine's cores.
@@ -71,7 +47,13 @@ impl Machine {
         let table = longer.table;
         let verdict = judge::judge(table, self.cores);
         let Verdict::Judged { count: _, admitted } = verdict else {
-            return self.denied(verdict);
+            let outcome = verdict.outcome();
+            let report = Report::none();
+            return Answer {
+                machine: self,
+                outcome,
+                report,
+            };
         };
         if !admitted {
             return Answer::refused(self, NOT_ADMITTED);

@@ -1,8 +1,11 @@
 // The slot machine: document 01, "The slot machine".
 pub mod answer;
 pub mod call;
-pub mod calls;
-pub mod job;
+mod finish;
 mod join;
+pub mod machine;
+mod pick;
+mod release;
 mod slot;
 mod sound;
+pub mod start;

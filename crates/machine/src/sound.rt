@@ -1,15 +1,16 @@
 // Whether a machine that is handed in is sound.
-use crate::job::Machine;
+use crate::machine::Machine;
 use tasks::check::check;
 use tasks::outcome::Outcome;
 ghost use Prim.Native.Nat.{_≤_};
 ghost use mathlib.Core.Path.{_≡_};
+ghost use Rattle.tasks.specs.Limits.{maxTasks};
 ghost use Rattle.machine.specs.Sound.{jobsSound, sound};
 
 impl Machine {
     // Whether the job of every task is sound.
     fn jobs_sound(self) -> bool
-        requires { ⌜ self .table .count ≤ 32 ⌝ }
+        requires { ⌜ self .table .count ≤ maxTasks ⌝ }
         ensures { λ r. ⌜ r ≡ jobsSound self (self .table .count) ⌝ }
     {
         let table = self.table;

@@ -13,7 +13,7 @@ use Rattle.reader.proofs.Scan.{cut, hasnt-of}
 use Rattle.reader.proofs.NamesLine.{past}
 use Rattle.reader.proofs.ValueLine.{rest-length}
 use Rattle.machine.specs.Calls.{step}
-use Rattle.machine.specs.declared.job.Machine.{Machine}
+use Rattle.machine.specs.declared.machine.Machine.{Machine}
 use Rattle.machine.specs.declared.call.Call.{Call}
 use Rattle.replay.specs.declared.calls.CallLine.the-variants.{Read, Bad}
 use Rattle.replay.specs.Lines.{lines, unended}

@@ -10,7 +10,7 @@ use Rattle.tasks.specs.Refusals.{textTooLong}
 use Rattle.tasks.specs.declared.outcome.Outcome.{Outcome}
 use Rattle.tasks.specs.declared.outcome.Outcome.the-variants.{Done, Refused}
 use Rattle.machine.specs.Calls.{start, step}
-use Rattle.machine.specs.declared.job.Machine.{Machine}
+use Rattle.machine.specs.declared.machine.Machine.{Machine}
 use Rattle.machine.specs.declared.call.Call.{Call}
 use Rattle.machine.specs.declared.answer.Answer.{Answer}
 use Rattle.replay.specs.Words.{coresWord}

@@ -4,7 +4,7 @@ use crate::calls::CallsStart;
 use crate::numbers::Number;
 use libc::STDIN_FILENO;
 use libc::STDOUT_FILENO;
-use machine::job::Machine;
+use machine::machine::Machine;
 use reader::bytes;
 use tasks::outcome::Outcome;
 use tasks::refusals::TEXT_TOO_LONG;

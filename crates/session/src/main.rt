@@ -2,7 +2,7 @@
 use libc::STDOUT_FILENO;
 use machine::answer::Answer;
 use machine::answer::mask;
-use machine::job::Machine;
+use machine::machine::Machine;
 use tasks::table::Table;
 use tasks::task::Task;
 

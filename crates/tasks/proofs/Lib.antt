@@ -1,3 +1,4 @@
 pub mod Checked
 pub mod Range
 pub mod Small
+pub mod TaskSetLaws

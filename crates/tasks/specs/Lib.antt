@@ -3,3 +3,5 @@ pub mod Refusals
 pub mod Task
 pub mod Table
 pub mod Check
+pub mod Outcome
+pub mod TaskSet

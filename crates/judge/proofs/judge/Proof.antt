@@ -2,7 +2,7 @@
 use mathlib.Core.Path.{sym, _∙_}
 use Rattle.tasks.proofs.Checked.{passes}
 use Rattle.edzl.specs.Window.{admitted}
-use Rattle.judge.specs.TaskSet.{tasksOf}
+use Rattle.tasks.specs.TaskSet.{tasksOf}
 use Rattle.judge.specs.Judge.{valuesOf, judgedAfter, judged}
 use borrow.Author.Needs.{needs}
 use Rattle.judge.proofs.judge.Statement.{statement}

@@ -4,7 +4,7 @@ use native.Mathlib.Numerals.{add-one}
 use native.Mathlib.Omega.{arith}
 use mathlib.Core.Path.{_≡_, _∙_}
 use lib.ListN.{length, getD}
-use Rattle.edzl.specs.Window.{sumTo}
+use Rattle.edzl.specs.Sums.{sumTo}
 use Rattle.edzl.proofs.SumLaws.{sum-bound}
 use Rattle.judge.proofs.OwnPart.{part}
 use Rattle.judge.proofs.sums.window_sums.Statement.{statement}

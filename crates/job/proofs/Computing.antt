@@ -1,0 +1,13 @@
+-- What a computed test looks through of a job's definitions, in one name: a proof `unfolding computingJobs` computes jobs and searches.
+use mathlib.Core.Bool.{Bool, true}
+use Rattle.job.specs.Job.{freshJob, releasedJob, closedJob, isUrgent}
+use Rattle.job.specs.Slot.{charged, aged, isFinished, isLate, settled}
+use Rattle.job.specs.Sound.{openSound, closedSound, jobSound}
+use Rattle.job.specs.Precedence.{leftFirst, byUrgency, jobPrecedes}
+use Rattle.job.specs.Search.{unpreceded, isNext, firstNext, nextRunner}
+
+unfoldable pub computingJobs : Bool
+unfolding
+    freshJob releasedJob closedJob isUrgent charged aged isFinished isLate settled openSound closedSound jobSound
+    leftFirst byUrgency jobPrecedes unpreceded isNext firstNext nextRunner
+computingJobs = true

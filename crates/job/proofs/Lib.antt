@@ -1,0 +1,7 @@
+pub mod Order
+pub mod Next
+pub mod RankSearch
+pub mod RankLaws
+pub mod SlotLaws
+pub mod SoundLaws
+pub mod Computing

@@ -1,0 +1,110 @@
+-- Precedence is a strict order. Others cite: `Before` and `holds`, why one job precedes another; `precedes-not-self`, `precedes-trans`; and
+-- `precedes-total`, that of two tasks one precedes the other.
+use Prim.Native.Nat.{ℕ, _<_}
+use mathlib.Core.Path.{_≡_, refl, sym, _∙_}
+use mathlib.Core.Bool.{Bool, true, false, _&&_, _||_, or-true}
+use mathlib.Core.Logic.{_⊎_, inl, inr, ⊎-elim}
+use native.Mathlib.Omega.{arith}
+use lib.Dec.{eqb, ltb}
+use borrow.Author.Tests.{ltb-true, eqb-true, lt-ltb, eq-eqb}
+use Rattle.edzl.proofs.CaseSplits.{by-order, by-equal, by-test, not-both}
+use Rattle.job.specs.Job.{isUrgent}
+use Rattle.job.specs.Precedence.{leftFirst, byUrgency, jobPrecedes}
+use Rattle.job.specs.declared.job.Job.{Job}
+
+-- Why job x of the task at index i precedes job y of the task at index j.
+pub data Before (x : Job) (i : ℕ) (y : Job) (j : ℕ) : Type 0 where
+  by-urgency : isUrgent x ≡ true → isUrgent y ≡ false → Before x i y j
+  by-left : isUrgent x ≡ isUrgent y → x .left < y .left → Before x i y j
+  by-number : isUrgent x ≡ isUrgent y → x .left ≡ y .left → i < j → Before x i y j
+
+module _ (x : Job) (i : ℕ) (y : Job) (j : ℕ) where
+  left-first : isUrgent x ≡ isUrgent y → leftFirst x i y j ≡ true → Before x i y j
+  unfolding leftFirst
+  left-first alike e = go (ltb (x .left) (y .left)) (eqb (x .left) (y .left)) refl refl e
+    where
+      go : (a b : Bool) →
+          ltb (x .left) (y .left) ≡ a →
+          eqb (x .left) (y .left) ≡ b →
+          (a || b && ltb i j) ≡ true →
+          Before x i y j
+      go true b p q e = by-left alike (ltb-true _ _ p)
+      go false true p q e = by-number alike (eqb-true _ _ q) (ltb-true i j e)
+      go false false p q e = not-both false e refl
+
+  -- Precedence and its reason, both ways.
+  reason : jobPrecedes x i y j ≡ true → Before x i y j
+  unfolding jobPrecedes byUrgency
+  reason e = go (isUrgent x) (isUrgent y) refl refl e
+    where
+      go : (a b : Bool) →
+          isUrgent x ≡ a →
+          isUrgent y ≡ b →
+          byUrgency a b (leftFirst x i y j) ≡ true →
+          Before x i y j
+      go true false p q e = by-urgency p q
+      go false true p q e = not-both false e refl
+      go true true p q e = left-first (p ∙ sym q) e
+      go false false p q e = left-first (p ∙ sym q) e
+
+  alike-precedes : isUrgent x ≡ isUrgent y → leftFirst x i y j ≡ true → jobPrecedes x i y j ≡ true
+  unfolding jobPrecedes byUrgency
+  alike-precedes alike e = rw (alike, e) (go (isUrgent y))
+    where
+      go : (a : Bool) → byUrgency a a true ≡ true
+      go true = refl
+      go false = refl
+
+  pub holds : Before x i y j → jobPrecedes x i y j ≡ true
+  unfolding jobPrecedes byUrgency leftFirst
+  holds (by-urgency p q) = rw (p, q)
+  holds (by-left alike l) = alike-precedes alike (rw (lt-ltb _ _ l))
+  holds (by-number alike e l) = alike-precedes alike (rw (eq-eqb _ _ e, lt-ltb _ _ l, or-true))
+
+  -- One of two tasks is before the other.
+  alike-either : (i ≡ j → ⊥) → isUrgent x ≡ isUrgent y → Before x i y j ⊎ Before y j x i
+  alike-either other alike =
+      by-order (x .left) (y .left)
+      (λ h.
+      by-equal (x .left) (y .left)
+      (λ e.
+      by-order i j
+      (λ l. inl (by-number alike e (omega arith)))
+      (λ l. inr (by-number (sym alike) (sym e) l)))
+      (λ ne. inl (by-left alike (omega arith))))
+      (λ l. inr (by-left (sym alike) l))
+
+  either : (i ≡ j → ⊥) → Before x i y j ⊎ Before y j x i
+  either other =
+      by-test (isUrgent x)
+      (λ p. by-test (isUrgent y) (λ q. alike-either other (p ∙ sym q)) (λ q. inl (by-urgency p q)))
+      (λ p. by-test (isUrgent y) (λ q. inr (by-urgency q p)) (λ q. alike-either other (p ∙ sym q)))
+
+then : {x y z : Job} {i j k : ℕ} → Before x i y j → Before y j z k → Before x i z k
+then (by-urgency p q) (by-urgency r s) = not-both _ r q
+then (by-urgency p q) (by-left a l) = by-urgency p (sym a ∙ q)
+then (by-urgency p q) (by-number a e l) = by-urgency p (sym a ∙ q)
+then (by-left a l) (by-urgency r s) = by-urgency (a ∙ r) s
+then (by-left a l) (by-left b k) = by-left (a ∙ b) (omega arith)
+then (by-left a l) (by-number b e k) = by-left (a ∙ b) (omega arith)
+then (by-number a e l) (by-urgency r s) = by-urgency (a ∙ r) s
+then (by-number a e l) (by-left b k) = by-left (a ∙ b) (omega arith)
+then (by-number a e l) (by-number b f k) = by-number (a ∙ b) (e ∙ f) (omega arith)
+
+never-self : {x : Job} {i : ℕ} → Before x i x i → ⊥
+never-self (by-urgency p q) = not-both _ p q
+never-self (by-left a l) = omega arith
+never-self (by-number a e l) = omega arith
+
+pub precedes-trans :
+    (x : Job) (i : ℕ) (y : Job) (j : ℕ) (z : Job) (k : ℕ) → jobPrecedes x i y j ≡ true → jobPrecedes y j z k ≡ true
+    → jobPrecedes x i z k ≡ true
+precedes-trans x i y j z k p q = holds x i z k (then (reason x i y j p) (reason y j z k q))
+
+pub precedes-not-self : (x : Job) (i : ℕ) → jobPrecedes x i x i ≡ false
+precedes-not-self x i = by-test (jobPrecedes x i x i) (λ e. absurd (never-self (reason x i x i e))) (λ e. e)
+
+pub precedes-total :
+    (x : Job) (i : ℕ) (y : Job) (j : ℕ) → (i ≡ j → ⊥) → jobPrecedes x i y j ≡ false → jobPrecedes y j x i ≡ true
+precedes-total x i y j other e =
+    ⊎-elim (λ b. not-both (jobPrecedes x i y j) (holds x i y j b) e) (holds y j x i) (either x i y j other)

@@ -1,0 +1,22 @@
+-- `Job::aged` meets its contract.
+use Rattle.job.specs.Slot.{aged}
+use borrow.Author.Needs.{needs}
+use Rattle.job.proofs.job.Job.aged.Statement.{statement}
+use Rattle.job.proofs.job.Job.aged.Tie as tie
+
+less-one-requires : tie.Need-less-one-requires
+less-one-requires c κs = search needs
+
+less-one-requires-2 : tie.Need-less-one-requires-2
+less-one-requires-2 c κs = search needs
+
+returns : tie.Need-returns
+unfolding aged
+returns c = rw (c .before .if1 .taken, c .less-one2 .ensures, c .before .before .less-one .ensures)
+
+returns-2 : tie.Need-returns-2
+unfolding aged
+returns-2 c = rw (c .if1 .left, c .before .less-one .ensures)
+
+pub aged-spec : {M : Type 1} → statement M
+aged-spec = tie.close (tie.spec less-one-requires less-one-requires-2 returns returns-2)

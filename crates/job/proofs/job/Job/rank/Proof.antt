@@ -1,0 +1,40 @@
+-- `Job::rank` meets its contract.
+use mathlib.Core.Path.{sym, _∙_}
+use borrow.Author.Tests.{not-true, not-false}
+use Rattle.job.specs.Rank.{rank}
+use borrow.Author.Needs.{needs}
+use Rattle.job.proofs.job.Job.rank.Statement.{statement}
+use Rattle.job.proofs.job.Job.rank.Tie as tie
+
+returns : tie.Need-returns
+unfolding rank
+returns c = rw (not-true (c .before .before .args .self .«open») (c .if1 .taken))
+
+is-urgent-requires : tie.Need-is-urgent-requires
+is-urgent-requires c κs = search needs
+
+cast-result : tie.Need-cast-result
+cast-result c = search needs
+
+returns-2 : tie.Need-returns-2
+unfolding rank
+returns-2 c =
+    let e = c .before .before .before in
+    rw (sym (c .before .before .is-urgent .ensures) ∙ c .before .if2 .taken, not-false (e .before .before .args .self .«open») (e .if1 .left))
+
+cast-result-2 : tie.Need-cast-result-2
+cast-result-2 c = search needs
+
+add-result : tie.Need-add-result
+add-result c = search needs
+
+returns-3 : tie.Need-returns-3
+unfolding rank
+returns-3 c =
+    let e = c .before .before .before in
+    rw (sym (c .before .before .is-urgent .ensures) ∙ c .before .if2 .left, not-false (e .before .before .args .self .«open») (e .if1 .left))
+
+pub rank-spec : {M : Type 1} → statement M
+rank-spec =
+    tie.close
+    (tie.spec returns is-urgent-requires cast-result returns-2 cast-result-2 add-result returns-3)

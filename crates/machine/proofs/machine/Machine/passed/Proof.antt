@@ -1,0 +1,106 @@
+-- `Machine::passed` meets its contract. The invariant: the tasks so far have passed the slot.
+use Prim.Native.Nat.{_-_, _≤_}
+use native.Mathlib.Omega.{arith}
+use mathlib.Core.Path.{_≡_, ap, _∙_}
+use mathlib.Core.Bool.{false}
+use lib.ListN.{getD}
+use borrow.Author.Needs.{needs}
+use Rattle.job.specs.Job.{freshJob}
+use Rattle.machine.specs.Pick.{runners}
+use Rattle.job.specs.Slot.{charged, aged}
+use Rattle.machine.proofs.SlotTurn.{Turned, turned-none, turned-more, turned-all}
+use Rattle.machine.proofs.machine.Machine.passed.Statement.{statement}
+use Rattle.machine.proofs.machine.Machine.passed.Tie as tie
+
+abbrev Inv-loop : tie.InvT-loop
+Inv-loop runners self₀ ran count finished₀ late₀ i₀ self finished late i = (i ≤ count) × Turned self₀ self finished late i
+
+abbrev μ-loop : tie.MeasureT-loop
+μ-loop runners self₀ ran count finished₀ late₀ i₀ self finished late i = count - i
+
+loop-holds : tie.Need-loop-holds Inv-loop μ-loop
+loop-holds c = (omega arith, turned-none _)
+
+mul-job : tie.Need-mul-job Inv-loop μ-loop
+mul-job c = omega arith
+
+element-copy-out-job : tie.Need-element-copy-out-job Inv-loop μ-loop
+element-copy-out-job c = omega arith
+
+array-read-charged : tie.Need-array-read-charged Inv-loop μ-loop
+array-read-charged c = omega arith
+
+charged-requires : tie.Need-charged-requires Inv-loop μ-loop
+charged-requires c κs = search needs
+
+aged-requires : tie.Need-aged-requires Inv-loop μ-loop
+aged-requires c κs = search needs
+
+is-finished-requires : tie.Need-is-finished-requires Inv-loop μ-loop
+is-finished-requires c κs = search needs
+
+array-write-finished : tie.Need-array-write-finished Inv-loop μ-loop
+array-write-finished c = omega arith
+
+is-late-requires : tie.Need-is-late-requires Inv-loop μ-loop
+is-late-requires c κs = search needs
+
+array-write-late : tie.Need-array-write-late Inv-loop μ-loop
+array-write-late c = omega arith
+
+settled-requires : tie.Need-settled-requires Inv-loop μ-loop
+settled-requires c κs = search needs
+
+mul-t13 : tie.Need-mul-t13 Inv-loop μ-loop
+mul-t13 c = omega arith
+
+element-set-from-self : tie.Need-element-set-from-self Inv-loop μ-loop
+element-set-from-self c = omega arith
+
+add-i : tie.Need-add-i Inv-loop μ-loop
+add-i c = omega arith
+
+loop-less : tie.Need-loop-less Inv-loop μ-loop
+loop-less c = omega arith
+
+loop-again : tie.Need-loop-again Inv-loop μ-loop
+unfolding freshJob
+loop-again c =
+    let a = c .before .before .before in
+    let l = a .before .before .before .before in
+    let e : a .aged .result ≡ aged (charged (getD (runners (l .before .args .t1)) (l .loop .i) false) (getD (l .loop .self .jobs) (l .loop .i) freshJob)) =
+    rw (← l .before .pre .1) (a .aged .ensures ∙ ap aged (a .before .charged .ensures))
+    in (
+      omega arith,
+      rw (c .settled .ensures, c .before .before .is-finished .ensures, c .before .is-late .ensures) (turned-more _ _ _ _ _ (l .loop .inv .1) (a .aged .result) e),
+    )
+
+returns : tie.Need-returns Inv-loop μ-loop
+returns c =
+    let s = c .before .before in
+    let e : c .before .loop .i ≡ s .args .t1 .table .count = omega arith in
+    turned-all _ _ _ _ _ _ (rw e at (c .before .loop .inv .1)) (s .pre .1) (s .pre .2)
+
+pub passed-spec : {M : Type 1} → statement M
+passed-spec =
+    tie.close
+    (tie.spec
+    Inv-loop
+    μ-loop
+    loop-holds
+    mul-job
+    element-copy-out-job
+    array-read-charged
+    charged-requires
+    aged-requires
+    is-finished-requires
+    array-write-finished
+    is-late-requires
+    array-write-late
+    settled-requires
+    mul-t13
+    element-set-from-self
+    add-i
+    loop-less
+    loop-again
+    returns)

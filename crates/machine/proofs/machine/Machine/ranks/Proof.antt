@@ -1,0 +1,103 @@
+-- `Machine::ranks` meets its contract. The invariant: the ranks and the count of the tasks so far.
+use Prim.Native.Nat.{_-_, _≤_}
+use native.Mathlib.Numerals.{add-one}
+use native.Mathlib.Omega.{arith}
+use mathlib.Core.Path.{_≡_, refl}
+use mathlib.Core.Logic.{⊎-elim}
+use borrow.Author.Needs.{needs}
+use lib.ListN.{replicate}
+use Rattle.edzl.specs.Sums.{sumTo, bit}
+use Rattle.edzl.proofs.SumLaws.{bit-true, bit-false}
+use Rattle.tasks.specs.Limits.{maxTasks}
+use Rattle.job.specs.Job.{freshJob}
+use Rattle.machine.specs.Machine.{jobAt}
+use Rattle.machine.specs.Pick.{openCount, pick}
+use Rattle.machine.specs.Slot.{replaced}
+use Rattle.job.specs.Rank.{never}
+use Rattle.machine.specs.Ranks.{rankAt, ranks}
+use Rattle.machine.proofs.RanksLaws.{rank-unpicked}
+use Rattle.machine.proofs.machine.Machine.ranks.Statement.{statement}
+use Rattle.machine.proofs.machine.Machine.ranks.Tie as tie
+
+abbrev Inv-loop : tie.InvT-loop
+Inv-loop self count ranks₀ found₀ i₀ ranks found i =
+    (i ≤ count)
+    × (ranks ≡ replaced i (rankAt self (pick self 0)) (replicate maxTasks never))
+    × (found ≡ sumTo i (λ k. bit (jobAt self k .«open»)))
+    × (found ≤ i)
+
+abbrev μ-loop : tie.MeasureT-loop
+μ-loop self count ranks₀ found₀ i₀ ranks found i = count - i
+
+loop-holds : tie.Need-loop-holds Inv-loop μ-loop
+unfolding sumTo replaced
+loop-holds c = (omega arith, refl, refl, omega arith)
+
+mul-job : tie.Need-mul-job Inv-loop μ-loop
+mul-job c = omega arith
+
+element-copy-out-job : tie.Need-element-copy-out-job Inv-loop μ-loop
+element-copy-out-job c = omega arith
+
+rank-requires : tie.Need-rank-requires Inv-loop μ-loop
+rank-requires c κs = search needs
+
+mul-ranks : tie.Need-mul-ranks Inv-loop μ-loop
+mul-ranks c = omega arith
+
+array-write-ranks : tie.Need-array-write-ranks Inv-loop μ-loop
+array-write-ranks c = omega arith
+
+add-found : tie.Need-add-found Inv-loop μ-loop
+add-found c = omega arith
+
+add-i : tie.Need-add-i Inv-loop μ-loop
+add-i c = omega arith
+
+loop-less : tie.Need-loop-less Inv-loop μ-loop
+loop-less c = omega arith
+
+loop-again : tie.Need-loop-again Inv-loop μ-loop
+unfolding sumTo replaced jobAt freshJob
+loop-again c =
+    let r = c .before in
+    let l = r .before .before .before in
+    let m = l .before .args .t1 in
+    ⊎-elim
+    (λ w. (
+      omega arith,
+      rw (r .rank .ensures, l .loop .inv .1, add-one (l .loop .i), rank-unpicked m (l .loop .i)),
+      rw (add-one (l .loop .i)) (omega (arith, w .1, l .loop .inv, bit-true _ (w .0 .taken))),
+      omega (arith, w .1, l .loop .inv),
+    ))
+    (λ w. (
+      omega arith,
+      rw (r .rank .ensures, l .loop .inv .1, add-one (l .loop .i), rank-unpicked m (l .loop .i)),
+      rw (add-one (l .loop .i)) (omega (arith, w .1, l .loop .inv, bit-false _ (w .0 .left))),
+      omega (arith, w .1, l .loop .inv),
+    ))
+    (c .if1 .came)
+
+returns : tie.Need-returns Inv-loop μ-loop
+unfolding openCount ranks
+returns c =
+    let e : c .before .loop .i ≡ c .before .before .args .t1 .table .count = omega arith in
+    rw (c .before .loop .inv .1, c .before .loop .inv .2, e)
+
+pub ranks-spec : {M : Type 1} → statement M
+ranks-spec =
+    tie.close
+    (tie.spec
+    Inv-loop
+    μ-loop
+    loop-holds
+    mul-job
+    element-copy-out-job
+    rank-requires
+    mul-ranks
+    array-write-ranks
+    add-found
+    add-i
+    loop-less
+    loop-again
+    returns)

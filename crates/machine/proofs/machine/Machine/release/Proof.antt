@@ -1,0 +1,123 @@
+-- `Machine::release` meets its contract: each refusal in its order, and then the job.
+use native.Mathlib.Omega.{arith}
+use mathlib.Core.Path.{sym, _∙_}
+use borrow.Author.Tests.{not-true, not-false, lt-ltb, le-ltb}
+use Rattle.tasks.specs.Table.{zeroTask}
+use Rattle.job.specs.Job.{freshJob}
+use Rattle.machine.specs.Machine.{taskAt, jobAt, withJob}
+use Rattle.machine.specs.Calls.{release}
+use Rattle.machine.proofs.TaskNumbers.{Inside, inside-of}
+use borrow.Author.Needs.{needs}
+use Rattle.machine.proofs.machine.Machine.release.Statement.{statement}
+use Rattle.machine.proofs.machine.Machine.release.Tie as tie
+
+-- the number is that of a task: its index is within the arrays
+inside : (c : tie.Else2) → Inside (c .before .before .before .before .args .t1) (c .before .before .before .before .args .number)
+inside c =
+    let t = c .before in
+    let e = t .before in
+    inside-of _ _ (sym (e .before .is-sound .ensures) ∙ not-false _ (e .if1 .left)) (sym (t .in-table .ensures) ∙ not-false _ (c .if2 .left))
+
+is-sound-requires : tie.Need-is-sound-requires
+is-sound-requires c κs = search needs
+
+refused-requires : tie.Need-refused-requires
+refused-requires c κs = search needs
+
+returns : tie.Need-returns
+unfolding release
+returns c = rw (sym (c .before .before .is-sound .ensures) ∙ not-true _ (c .before .if1 .taken)) (c .refused .ensures)
+
+in-table-requires : tie.Need-in-table-requires
+in-table-requires c κs = search needs
+
+refused-requires-2 : tie.Need-refused-requires-2
+refused-requires-2 c κs = search needs
+
+returns-2 : tie.Need-returns-2
+unfolding release
+returns-2 c =
+    let t = c .before .before in
+    rw (sym (t .before .before .is-sound .ensures) ∙ not-false _ (t .before .if1 .left), sym (t .in-table .ensures) ∙ not-true _ (c .before .if2 .taken)) (c .refused2 .ensures)
+
+sub-i : tie.Need-sub-i
+sub-i c = omega (arith, inside c)
+
+mul-job : tie.Need-mul-job
+mul-job c = search needs
+
+element-copy-out-job : tie.Need-element-copy-out-job
+element-copy-out-job c = omega (arith, inside c)
+
+refused-requires-3 : tie.Need-refused-requires-3
+refused-requires-3 c κs = search needs
+
+returns-3 : tie.Need-returns-3
+unfolding release jobAt freshJob
+returns-3 c =
+    let d = c .before .before .before .before in
+    let t = d .before in
+    rw (sym (t .before .before .is-sound .ensures) ∙ not-false _ (t .before .if1 .left), sym (t .in-table .ensures) ∙ not-false _ (d .if2 .left), lt-ltb _ _ (c .before .if3 .taken)) (c .refused3 .ensures)
+
+refused-requires-4 : tie.Need-refused-requires-4
+refused-requires-4 c κs = search needs
+
+returns-4 : tie.Need-returns-4
+unfolding release jobAt freshJob
+returns-4 c =
+    let e = c .before .before in
+    let d = e .before .before .before in
+    let t = d .before in
+    rw (sym (t .before .before .is-sound .ensures) ∙ not-false _ (t .before .if1 .left), sym (t .in-table .ensures) ∙ not-false _ (d .if2 .left), le-ltb _ _ (e .if3 .left), c .before .if4 .taken) (c .refused4 .ensures)
+
+mul-task : tie.Need-mul-task
+mul-task c = search needs
+
+element-copy-out-task : tie.Need-element-copy-out-task
+element-copy-out-task c = omega (arith, inside (c .before .before .before .before .before))
+
+released-requires : tie.Need-released-requires
+released-requires c κs = search needs
+
+mul-t13 : tie.Need-mul-t13
+mul-t13 c = search needs
+
+element-set-from-self : tie.Need-element-set-from-self
+element-set-from-self c = omega (arith, inside (c .before .before .before .before .before .before .before))
+
+done-requires : tie.Need-done-requires
+done-requires c κs = search needs
+
+returns-5 : tie.Need-returns-5
+unfolding release withJob taskAt jobAt freshJob zeroTask
+returns-5 c =
+    let f = c .before .before .before .before in
+    let e = f .before in
+    let d = e .before .before .before in
+    let t = d .before in
+    rw (sym (t .before .before .is-sound .ensures) ∙ not-false _ (t .before .if1 .left), sym (t .in-table .ensures) ∙ not-false _ (d .if2 .left), le-ltb _ _ (e .if3 .left), f .if4 .left, ← c .before .released .ensures) (c .done .ensures)
+
+pub release-spec : {M : Type 1} → statement M
+release-spec =
+    tie.close
+    (tie.spec
+    is-sound-requires
+    refused-requires
+    returns
+    in-table-requires
+    refused-requires-2
+    returns-2
+    sub-i
+    mul-job
+    element-copy-out-job
+    refused-requires-3
+    returns-3
+    refused-requires-4
+    returns-4
+    mul-task
+    element-copy-out-task
+    released-requires
+    mul-t13
+    element-set-from-self
+    done-requires
+    returns-5)

@@ -1,0 +1,74 @@
+-- `Machine::slot` meets its contract.
+use Prim.Native.Nat.{_≤_}
+use native.Mathlib.Omega.{arith}
+use mathlib.Core.Path.{_≡_, sym, ap, _∙_}
+use mathlib.Core.Bool.{true}
+use borrow.Author.Needs.{needs}
+use borrow.Author.Tests.{not-true, not-false}
+use Rattle.machine.specs.declared.machine.Machine.{Machine}
+use Rattle.machine.specs.declared.pick.Ranks.{Ranks}
+use Rattle.machine.specs.Pick.{openCount, runnerCount, runners}
+use Rattle.machine.specs.Sound.{sound}
+use Rattle.machine.specs.Calls.{slot}
+use Rattle.machine.proofs.SoundLaws.{sound-passes}
+use Rattle.machine.proofs.machine.Machine.slot.Statement.{statement}
+use Rattle.machine.proofs.machine.Machine.slot.Tie as tie
+
+-- the machine is sound here, so it has 32 tasks at most
+is-sound : (c : tie.Else1) → sound (c .before .before .args .self) ≡ true
+is-sound c = sym (c .before .is-sound .ensures) ∙ not-false _ (c .if1 .left)
+
+fits : (c : tie.Else1) → c .before .before .args .self .table .count ≤ 32
+fits c = sound-passes _ (is-sound c) .count-fits
+
+-- no more run than are open
+few : (m : Machine) → runnerCount m ≤ openCount m
+unfolding runnerCount
+few m = omega arith
+
+is-sound-requires : tie.Need-is-sound-requires
+is-sound-requires c κs = search needs
+
+refused-requires : tie.Need-refused-requires
+refused-requires c κs = search needs
+
+returns : tie.Need-returns
+unfolding slot
+returns c = rw (sym (c .before .before .is-sound .ensures) ∙ not-true _ (c .before .if1 .taken)) (c .refused .ensures)
+
+ranks-requires : tie.Need-ranks-requires
+ranks-requires c κs = fits c
+
+runner-count-requires : tie.Need-runner-count-requires
+runner-count-requires c κs = ap (λ (r : Ranks). r .found) (c .before .ranks .ensures)
+
+pick-requires : tie.Need-pick-requires
+pick-requires c κs =
+    let r = c .before .before in (
+      is-sound (r .before),
+      ap (λ (r : Ranks). r .ranks) (r .ranks .ensures),
+      rw (c .runner-count .ensures) (few (r .before .before .before .args .self)),
+    )
+
+passed-requires : tie.Need-passed-requires
+unfolding runners
+passed-requires c κs =
+    let n = c .before .runner-count .ensures in
+    (fits (c .before .before .before .before), c .pick .ensures ∙ rw n, n)
+
+returns-2 : tie.Need-returns-2
+unfolding slot
+returns-2 c = rw (is-sound (c .before .before .before .before .before)) (c .passed .ensures)
+
+pub slot-spec : {M : Type 1} → statement M
+slot-spec =
+    tie.close
+    (tie.spec
+    is-sound-requires
+    refused-requires
+    returns
+    ranks-requires
+    runner-count-requires
+    pick-requires
+    passed-requires
+    returns-2)

@@ -1,0 +1,31 @@
+-- The machine: document 01, "The slot machine".
+use Prim.Native.Nat.{ℕ}
+use mathlib.Core.Bool.{Bool, _&&_}
+use lib.Dec.{leb}
+use lib.ListN.{getD, set, replicate}
+use Rattle.tasks.specs.declared.task.Task.{Task}
+use Rattle.tasks.specs.Limits.{maxTasks}
+use Rattle.tasks.specs.Table.{emptyTable, zeroTask}
+use Rattle.job.specs.declared.job.Job.{Job}
+use Rattle.job.specs.Job.{freshJob}
+use Rattle.machine.specs.declared.machine.Machine.{Machine}
+
+-- "a machine of zeros"
+unfoldable pub zeroMachine : Machine
+zeroMachine = record { table = emptyTable; cores = 0; jobs = replicate maxTasks freshJob }
+
+-- the task at an index, from 0
+unfoldable pub taskAt : Machine → ℕ → Task
+taskAt m i = getD (m .table .tasks) i zeroTask
+
+-- the job of the task at an index, from 0
+unfoldable pub jobAt : Machine → ℕ → Job
+jobAt m i = getD (m .jobs) i freshJob
+
+-- the machine with another job at an index
+unfoldable pub withJob : Machine → ℕ → Job → Machine
+withJob m i j = record { table = m .table; cores = m .cores; jobs = set (m .jobs) i j }
+
+-- "The task number is not in the table", the other way round
+unfoldable pub inTable : Machine → (number : ℕ) → Bool
+inTable m number = leb 1 number && leb number (m .table .count)

@@ -1,0 +1,25 @@
+// The machine, and the numbers of its tasks.
+use job::job::Job;
+use tasks::limits::MAX_TASKS;
+use tasks::table::Table;
+ghost use mathlib.Core.Path.{_≡_};
+ghost use Rattle.machine.specs.Machine.{inTable};
+
+// The table, the number of cores, and for each task its job. Entries past the table's count are no part of it.
+pub struct Machine {
+    pub table: Table,
+    pub cores: u32,
+    pub jobs: [Job; MAX_TASKS],
+}
+
+impl Machine {
+    // Whether the table has a task of this number, from 1.
+    pub fn in_table(self, number: u32) -> bool
+        ensures { λ r. ⌜ r ≡ inTable self number ⌝ }
+    {
+        if number < 1 {
+            return false;
+        }
+        number as usize <= self.table.count
+    }
+}

@@ -1,0 +1,69 @@
+// The pick of a slot's runners.
+use crate::machine::Machine;
+use job::rank::NEVER;
+use job::search::next_runner;
+use tasks::limits::MAX_TASKS;
+ghost use Prim.Native.Nat.{_≤_};
+ghost use mathlib.Core.Path.{_≡_};
+ghost use mathlib.Core.Bool.{true};
+ghost use Rattle.tasks.specs.Limits.{maxTasks};
+ghost use Rattle.machine.specs.Pick.{openCount, runnerCount, pick};
+ghost use Rattle.machine.specs.Ranks.{ranks as ranksOf};
+ghost use Rattle.machine.specs.Sound.{sound};
+
+// The rank of each task, and how many tasks are open.
+pub(crate) struct Ranks {
+    pub(crate) ranks: [u64; MAX_TASKS],
+    pub(crate) found: u32,
+}
+
+impl Machine {
+    // The ranks of the tasks while none is picked.
+    pub(crate) fn ranks(self) -> Ranks
+        requires { ⌜ self .table .count ≤ maxTasks ⌝ }
+        ensures { λ r. ⌜ r ≡ record { ranks = ranksOf self (pick self 0); found = openCount self } ⌝ }
+    {
+        let count = self.table.count;
+        let mut ranks = [NEVER; MAX_TASKS];
+        let mut found: u32 = 0;
+        let mut i: usize = 0;
+        while i < count {
+            let job = self.jobs[i];
+            ranks[i] = job.rank();
+            if job.open {
+                found += 1;
+            }
+            i += 1;
+        }
+        Ranks { ranks, found }
+    }
+
+    // How many tasks run in a slot, of so many that are open.
+    pub(crate) fn runner_count(self, found: u32) -> u32
+        requires { ⌜ found ≡ openCount self ⌝ }
+        ensures { λ r. ⌜ r ≡ runnerCount self ⌝ }
+    {
+        if self.cores < found {
+            return self.cores;
+        }
+        found
+    }
+
+    // The first `wanted` open tasks in precedence, by the tasks' ranks. A task that is picked waits no longer.
+    pub(crate) fn pick(self, ranks: [u64; MAX_TASKS], wanted: u32) -> [bool; MAX_TASKS]
+        requires { ⌜ (sound self ≡ true) × (ranks ≡ ranksOf self (pick self 0)) × (wanted ≤ openCount self) ⌝ }
+        ensures { λ r. ⌜ r ≡ pick self wanted ⌝ }
+    {
+        let mut waiting = ranks;
+        let mut picked = [false; MAX_TASKS];
+        let mut found: u32 = 0;
+        while found < wanted {
+            let count = self.table.count;
+            let next = next_runner(&waiting[..count]) - 1;
+            picked[next] = true;
+            waiting[next] = NEVER;
+            found += 1;
+        }
+        picked
+    }
+}

@@ -1,0 +1,36 @@
+// A release.
+use crate::answer::Answer;
+use crate::machine::Machine;
+use job::job::Job;
+use tasks::refusals::JOB_STILL_OPEN;
+use tasks::refusals::NO_SUCH_TASK;
+use tasks::refusals::RELEASED_TOO_SOON;
+use tasks::refusals::UNSOUND_MACHINE;
+ghost use mathlib.Core.Path.{_≡_};
+ghost use Rattle.machine.specs.Calls.{release};
+
+impl Machine {
+    // The release of a task's job.
+    pub fn release(mut self, number: u32) -> Answer
+        ensures { λ r. ⌜ r ≡ release self number ⌝ }
+    {
+        if !self.is_sound() {
+            return Answer::refused(self, UNSOUND_MACHINE);
+        }
+        if !self.in_table(number) {
+            return Answer::refused(self, NO_SUCH_TASK);
+        }
+        let i = number as usize - 1;
+        let job = self.jobs[i];
+        if 0 < job.gap {
+            return Answer::refused(self, RELEASED_TOO_SOON);
+        }
+        if job.open {
+            return Answer::refused(self, JOB_STILL_OPEN);
+        }
+        let table = self.table;
+        let task = table.tasks[i];
+        self.jobs[i] = Job::released(task);
+        Answer::done(self)
+    }
+}

@@ -1,0 +1,9 @@
+-- What an outcome says: document 01, "The slot machine".
+use mathlib.Core.Bool.{Bool, true, false}
+use Rattle.tasks.specs.declared.outcome.Outcome.{Outcome}
+use Rattle.tasks.specs.declared.outcome.Outcome.the-variants.{Done, Refused}
+
+-- "A call is accepted when it is not refused"
+unfoldable pub isDone : Outcome → Bool
+isDone Done = true
+isDone (Refused number place) = false
