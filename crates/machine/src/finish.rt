@@ -9,7 +9,7 @@ ghost use Rattle.machine.specs.Calls.{finish};
 
 impl Machine {
     // The finish of a task's job.
-    pub fn finish(mut self, number: u32) -> Answer
+    pub fn finish(self, number: u32) -> Answer
         ensures { λ r. ⌜ r ≡ finish self number ⌝ }
     {
         if !self.is_sound() {
@@ -23,7 +23,6 @@ impl Machine {
         if !job.open {
             return Answer::refused(self, JOB_NOT_OPEN);
         }
-        self.jobs[i] = job.closed();
-        Answer::done(self)
+        Answer::done(self.with_job(i, job.closed()))
     }
 }

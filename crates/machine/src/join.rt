@@ -26,8 +26,7 @@ impl Machine {
         table.tasks[count] = task;
         table.count = count + 1;
         self.table = table;
-        self.jobs[count] = fresh_job();
-        self
+        self.with_job(count, fresh_job())
     }
 
     // A task joins, if the longer table is admitted on the machine's cores.

@@ -2,8 +2,10 @@
 use job::job::Job;
 use tasks::limits::MAX_TASKS;
 use tasks::table::Table;
+ghost use Prim.Native.Nat.{_<_};
 ghost use mathlib.Core.Path.{_≡_};
-ghost use Rattle.machine.specs.Machine.{inTable};
+ghost use Rattle.tasks.specs.Limits.{maxTasks};
+ghost use Rattle.machine.specs.Machine.{withJob, inTable};
 
 // The table, the number of cores, and for each task its job. Entries past the table's count are no part of it.
 pub struct Machine {
@@ -21,5 +23,13 @@ impl Machine {
             return false;
         }
         number as usize <= self.table.count
+    }
+    // The machine with another job at an index.
+    pub(crate) fn with_job(mut self, i: usize, job: Job) -> Self
+        requires { ⌜ i < maxTasks ⌝ }
+        ensures { λ r. ⌜ r ≡ withJob self i job ⌝ }
+    {
+        self.jobs[i] = job;
+        self
     }
 }

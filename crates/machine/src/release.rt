@@ -11,7 +11,7 @@ ghost use Rattle.machine.specs.Calls.{release};
 
 impl Machine {
     // The release of a task's job.
-    pub fn release(mut self, number: u32) -> Answer
+    pub fn release(self, number: u32) -> Answer
         ensures { λ r. ⌜ r ≡ release self number ⌝ }
     {
         if !self.is_sound() {
@@ -30,7 +30,6 @@ impl Machine {
         }
         let table = self.table;
         let task = table.tasks[i];
-        self.jobs[i] = Job::released(task);
-        Answer::done(self)
+        Answer::done(self.with_job(i, Job::released(task)))
     }
 }

@@ -3,7 +3,7 @@ use native.Mathlib.Omega.{arith}
 use mathlib.Core.Path.{sym, _∙_}
 use borrow.Author.Tests.{not-true, not-false}
 use Rattle.job.specs.Job.{freshJob}
-use Rattle.machine.specs.Machine.{jobAt, withJob}
+use Rattle.machine.specs.Machine.{jobAt}
 use Rattle.machine.specs.Calls.{finish}
 use Rattle.machine.proofs.TaskNumbers.{Inside, inside-of}
 use borrow.Author.Needs.{needs}
@@ -61,22 +61,20 @@ returns-3 c =
 closed-requires : tie.Need-closed-requires
 closed-requires c κs = search needs
 
-mul-t11 : tie.Need-mul-t11
-mul-t11 c = search needs
-
-element-set-from-self : tie.Need-element-set-from-self
-element-set-from-self c = omega (arith, inside (c .before .before .before .before))
+with-job-requires : tie.Need-with-job-requires
+with-job-requires c κs = omega (arith, inside (c .before .before .before .before))
 
 done-requires : tie.Need-done-requires
 done-requires c κs = search needs
 
 returns-4 : tie.Need-returns-4
-unfolding finish withJob jobAt freshJob
+unfolding finish jobAt freshJob
 returns-4 c =
-    let e = c .before .before in
+    let w = c .before in
+    let e = w .before .before in
     let d = e .before .before .before in
     let t = d .before in
-    rw (sym (t .before .before .is-sound .ensures) ∙ not-false _ (t .before .if1 .left), sym (t .in-table .ensures) ∙ not-false _ (d .if2 .left), e .if3 .left, ← c .before .closed .ensures) (c .done .ensures)
+    rw (sym (t .before .before .is-sound .ensures) ∙ not-false _ (t .before .if1 .left), sym (t .in-table .ensures) ∙ not-false _ (d .if2 .left), e .if3 .left, ← w .before .closed .ensures, ← w .with-job .ensures) (c .done .ensures)
 
 pub finish-spec : {M : Type 1} → statement M
 finish-spec =
@@ -94,7 +92,6 @@ finish-spec =
     refused-requires-3
     returns-3
     closed-requires
-    mul-t11
-    element-set-from-self
+    with-job-requires
     done-requires
     returns-4)

@@ -4,7 +4,7 @@ use mathlib.Core.Path.{sym, _∙_}
 use borrow.Author.Tests.{not-true, not-false, lt-ltb, le-ltb}
 use Rattle.tasks.specs.Table.{zeroTask}
 use Rattle.job.specs.Job.{freshJob}
-use Rattle.machine.specs.Machine.{taskAt, jobAt, withJob}
+use Rattle.machine.specs.Machine.{taskAt, jobAt}
 use Rattle.machine.specs.Calls.{release}
 use Rattle.machine.proofs.TaskNumbers.{Inside, inside-of}
 use borrow.Author.Needs.{needs}
@@ -79,23 +79,21 @@ element-copy-out-task c = omega (arith, inside (c .before .before .before .befor
 released-requires : tie.Need-released-requires
 released-requires c κs = search needs
 
-mul-t13 : tie.Need-mul-t13
-mul-t13 c = search needs
-
-element-set-from-self : tie.Need-element-set-from-self
-element-set-from-self c = omega (arith, inside (c .before .before .before .before .before .before .before))
+with-job-requires : tie.Need-with-job-requires
+with-job-requires c κs = omega (arith, inside (c .before .before .before .before .before .before .before))
 
 done-requires : tie.Need-done-requires
 done-requires c κs = search needs
 
 returns-5 : tie.Need-returns-5
-unfolding release withJob taskAt jobAt freshJob zeroTask
+unfolding release taskAt jobAt freshJob zeroTask
 returns-5 c =
-    let f = c .before .before .before .before in
+    let w = c .before in
+    let f = w .before .before .before .before in
     let e = f .before in
     let d = e .before .before .before in
     let t = d .before in
-    rw (sym (t .before .before .is-sound .ensures) ∙ not-false _ (t .before .if1 .left), sym (t .in-table .ensures) ∙ not-false _ (d .if2 .left), le-ltb _ _ (e .if3 .left), f .if4 .left, ← c .before .released .ensures) (c .done .ensures)
+    rw (sym (t .before .before .is-sound .ensures) ∙ not-false _ (t .before .if1 .left), sym (t .in-table .ensures) ∙ not-false _ (d .if2 .left), le-ltb _ _ (e .if3 .left), f .if4 .left, ← w .before .released .ensures, ← w .with-job .ensures) (c .done .ensures)
 
 pub release-spec : {M : Type 1} → statement M
 release-spec =
@@ -117,7 +115,6 @@ release-spec =
     mul-task
     element-copy-out-task
     released-requires
-    mul-t13
-    element-set-from-self
+    with-job-requires
     done-requires
     returns-5)

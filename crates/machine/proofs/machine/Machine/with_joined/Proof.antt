@@ -1,5 +1,7 @@
 -- `Machine::with_joined` meets its contract.
+use mathlib.Core.Path.{_∙_}
 use Rattle.tasks.specs.Table.{withTask}
+use Rattle.machine.specs.Machine.{withJob}
 use Rattle.machine.specs.Calls.{withJoined}
 use borrow.Author.Needs.{needs}
 use Rattle.machine.proofs.machine.Machine.with_joined.Statement.{statement}
@@ -17,15 +19,12 @@ add-table c = search needs
 fresh-job-requires : tie.Need-fresh-job-requires
 fresh-job-requires c κs = search needs
 
-mul-t7 : tie.Need-mul-t7
-mul-t7 c = search needs
-
-element-set-from-self : tie.Need-element-set-from-self
-element-set-from-self c = search needs
+with-job-requires : tie.Need-with-job-requires
+with-job-requires c κs = search needs
 
 returns : tie.Need-returns
-unfolding withJoined withTask
-returns c = rw (c .fresh-job .ensures)
+unfolding withJoined withTask withJob
+returns c = c .with-job .ensures ∙ rw (c .before .fresh-job .ensures)
 
 pub with-joined-spec : {M : Type 1} → statement M
 with-joined-spec =
@@ -35,6 +34,5 @@ with-joined-spec =
     element-set-from-task
     add-table
     fresh-job-requires
-    mul-t7
-    element-set-from-self
+    with-job-requires
     returns)
