@@ -1,21 +1,23 @@
--- The examples all hold, and demand 3's claim is not empty: it speaks of a release whose job runs and finishes.
+-- The examples all hold (`examples-hold`, `claims-hold`). Demand 3's claim is not empty: it speaks of a release whose job runs and finishes
+-- (`not-empty`), and it is false of a log with a late job (`late-refuted`).
 use Prim.Native.Nat.{ℕ, _-_, _≤_}
 use mathlib.Core.Path.{_≡_, refl}
 use mathlib.Core.Bool.{true}
-use mathlib.Core.List.{List, _∷_, _++_}
+use mathlib.Core.List.{List, [], _∷_, _++_}
 use lib.ListN.{getD, take, drop, replicate}
 use native.Mathlib.Omega.{arith}
 use Rattle.tasks.specs.declared.table.Table.{Table}
 use Rattle.tasks.specs.declared.outcome.Outcome.the-variants.{Done}
 use Rattle.tasks.specs.Table.{zeroTask}
+use Rattle.edzl.proofs.CaseSplits.{not-both}
 use Rattle.judge.specs.Judge.{judged}
 use Rattle.tasks.specs.Outcome.{isDone}
 use Rattle.machine.specs.Slot.{noReport}
 use Rattle.machine.specs.Calls.{start}
 use Rattle.machine.specs.Play.{Entry, play}
-use Rattle.machine.specs.InTime.{saysRan, saysFinished, slotCount, tableAfter, joinedBy, closedBySlot, Promise}
-use Rattle.machine.specs.Cases.{tableOf, releases, example}
-use Rattle.machine.specs.Examples.{answers, refusalBefore, refusals, runnerCounts, sameNumbers, runIs, ignoredIs, many, whole, overtaken, ignored, examples, allTrue}
+use Rattle.machine.specs.InTime.{isFinishOf, acceptedFinish, saysRan, saysFinished, slotCount, upToSlot, ranWhole, anyFinish, tableAfter, joinedBy, closedBySlot, InTime, Promise}
+use Rattle.machine.specs.Cases.{tableOf, releases, session, example}
+use Rattle.machine.specs.Examples.{answers, refusalBefore, refusals, runnerCounts, sameNumbers, runIs, ignoredIs, many, whole, overtaken, ignored, examples, slotOf, idle, ran, ranLast, accepted, refused, closedIn, claims, allTrue}
 use Rattle.machine.specs.declared.call.Call.{Call}
 use Rattle.machine.specs.declared.call.Call.the-variants.{Release, Slot}
 use Rattle.machine.proofs.Computing.{computing}
@@ -24,6 +26,17 @@ use Rattle.machine.proofs.InTimeHolds.{promise}
 pub examples-hold : allTrue examples ≡ true
 unfolding computing answers refusalBefore refusals runnerCounts sameNumbers runIs ignoredIs many whole overtaken ignored examples allTrue
 examples-hold = refl
+
+pub claims-hold : allTrue claims ≡ true
+unfolding computing saysRan saysFinished slotCount upToSlot ranWhole acceptedFinish isFinishOf anyFinish closedBySlot slotOf idle ran ranLast accepted refused closedIn claims allTrue
+claims-hold = refl
+
+-- the log of case k, in whose last slot task 2 is late
+pub late-refuted : InTime (tableOf whole) (session whole 1 5) → ⊥
+unfolding computing whole
+late-refuted claim =
+    let log = session whole 1 5 in
+    not-both true refl (claim .none-late (take 6 log) [] (getD log 6 (record { call = Slot; outcome = Done; report = noReport })) refl refl 1)
 
 -- an admitted table and calls whose log has what demand 3 speaks of
 pub record NotEmpty : Type 0 where

@@ -1,16 +1,20 @@
--- Examples beside the cases of document 01, as entries of a single list of computed tests: 32 tasks on 16 cores, joins, a task that
--- turns urgent, refused calls. `allTrue examples` is the test; the theorem stands in proofs/ExamplesHold.antt.
+-- Examples beside the cases of document 01, as entries of lists of computed tests. `examples` has runs of the machine: 32 tasks on 16 cores,
+-- joins, a task that turns urgent, refused calls. `claims` has logs made by hand, and what the claim of demand 3 says of them. `allTrue` is the
+-- test; the theorems stand in proofs/ExamplesHold.antt.
 use Prim.Native.Nat.{ℕ}
-use mathlib.Core.Bool.{Bool, true, false, cond, _&&_}
+use mathlib.Core.Bool.{Bool, true, false, cond, not, _&&_}
 use mathlib.Core.List.{List, [], _∷_, _++_}
 use lib.Dec.{eqb}
 use lib.ListN.{replicate}
+use Rattle.edzl.specs.Sums.{bit}
 use Rattle.tasks.specs.declared.task.Task.{Task}
 use Rattle.tasks.specs.declared.outcome.Outcome.{Outcome}
 use Rattle.tasks.specs.declared.outcome.Outcome.the-variants.{Done, Refused}
+use Rattle.tasks.specs.Refusals.{unsoundMachine}
+use Rattle.machine.specs.Slot.{noReport}
 use Rattle.machine.specs.Calls.{start}
 use Rattle.machine.specs.Play.{Entry, play}
-use Rattle.machine.specs.InTime.{acceptedSlot}
+use Rattle.machine.specs.InTime.{acceptedSlot, slotCount, closedBySlot}
 use Rattle.machine.specs.Cases.{Line, verdictIs, sessionIs, task, tableOf, slotLines, sameLines, releases, holds, line, example}
 use Rattle.machine.specs.declared.call.Call.{Call}
 use Rattle.machine.specs.declared.call.Call.the-variants.{Release, Finish, Slot, Join}
@@ -117,6 +121,57 @@ examples =
     runIs example 2 (Release 1 ∷ Release 2 ∷ Finish 2 ∷ Release 2 ∷ replicate 2 Slot) (9 ∷ []) (line 1 1 0 ∷ line 0 0 0 ∷ []) ∷
     []
 
+-- a slot of a log made by hand, in which task 1 alone ran, or finished, or did neither
+unfoldable pub slotOf : (ran finished : Bool) → Entry
+slotOf ran finished =
+    record {
+      call = Slot;
+      outcome = Done;
+      report = record { ran = ran ∷ []; finished = finished ∷ []; late = []; runners = bit ran };
+    }
+
+-- a slot in which task 1 stood idle, one in which it ran, and one in which it ran and finished
+unfoldable pub idle : Entry
+idle = slotOf false false
+
+unfoldable pub ran : Entry
+ran = slotOf true false
+
+unfoldable pub ranLast : Entry
+ranLast = slotOf true true
+
+-- an accepted call that is no slot, and a refused call
+unfoldable pub accepted : Call → Entry
+accepted call = record { call = call; outcome = Done; report = noReport }
+
+unfoldable pub refused : Call → Entry
+refused call = record { call = call; outcome = Refused unsoundMachine 0; report = noReport }
+
+-- whether the claim takes a job of task 1 for closed in a log after its release
+unfoldable pub closedIn : (budget deadline : ℕ) → List Entry → Bool
+closedIn budget deadline log = closedBySlot 1 (task 9 budget deadline) log
+
+unfoldable pub claims : List Bool
+claims =
+    -- by the second slot, and not by the third; a refused slot is not counted
+    closedIn 1 2 (idle ∷ ranLast ∷ []) ∷
+    not (closedIn 1 2 (idle ∷ idle ∷ ranLast ∷ [])) ∷
+    closedIn 1 2 (idle ∷ refused Slot ∷ ranLast ∷ []) ∷
+    eqb (slotCount (idle ∷ refused Slot ∷ accepted (Finish 1) ∷ ranLast ∷ [])) 2 ∷
+    -- the whole budget, and the last of its slots says that the task finished
+    closedIn 2 3 (ran ∷ idle ∷ ranLast ∷ []) ∷
+    not (closedIn 2 3 (idle ∷ idle ∷ ranLast ∷ [])) ∷
+    not (closedIn 2 3 (ran ∷ ran ∷ idle ∷ [])) ∷
+    -- an accepted finish of the task, before the deadline
+    closedIn 2 2 (idle ∷ accepted (Finish 1) ∷ idle ∷ []) ∷
+    not (closedIn 2 2 (refused (Finish 1) ∷ idle ∷ idle ∷ [])) ∷
+    not (closedIn 2 2 (accepted (Finish 2) ∷ idle ∷ idle ∷ [])) ∷
+    not (closedIn 2 2 (idle ∷ idle ∷ accepted (Finish 1) ∷ [])) ∷
+    -- of task 2 these slots say nothing
+    not (closedBySlot 2 (task 9 1 2) (idle ∷ ranLast ∷ [])) ∷
+    []
+
+-- every test of a list holds
 unfoldable pub allTrue : List Bool → Bool
 allTrue [] = true
 allTrue (b ∷ l) = b && allTrue l
