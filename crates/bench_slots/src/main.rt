@@ -6,10 +6,12 @@ use machine::answer::mask;
 use machine::job::Job;
 use machine::job::Machine;
 use tasks::limits::MAX_TASKS;
+use tasks::limits::MAX_TEXT_LENGTH;
 ghost use Prim.Native.Nat.{_≤_};
+ghost use Rattle.tasks.specs.Limits.{maxTasks};
 
 // One byte more than a text may have, so that a longer one is seen to be too long.
-const MOST: usize = 4_097;
+const MOST: usize = MAX_TEXT_LENGTH + 1;
 
 // The slots that are played.
 const SLOTS: u64 = 1_000_000;
@@ -41,7 +43,7 @@ fn may_release(job: Job) -> bool {
 // The checksum of the reports of so many slots of a machine of `count` tasks. Before each slot every task whose release would be accepted
 // is released: a turn of the loop looks at one task, and after the last task it plays the slot.
 fn play(machine: Machine, count: usize, slots: u64) -> u64
-    requires { ⌜ count ≤ 32 ⌝ }
+    requires { ⌜ count ≤ maxTasks ⌝ }
 {
     let mut after = machine;
     let mut sum: u64 = 0;
