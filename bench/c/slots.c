@@ -1,6 +1,6 @@
 /*
- * The program slots in plain C, with the machine kept in place: plays many
- * slots of the table on standard input and prints a checksum. Built with
+ * The program bench_slots in plain C, with the machine kept in place: plays
+ * many slots of the table on standard input and prints a checksum. Built with
  * CHECKED as 1, each call first tests that the machine is sound, as the proved
  * one does; with 0 it does not.
  */

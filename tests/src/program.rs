@@ -13,7 +13,7 @@ pub fn verdict_output(text: &[u8]) -> Vec<u8> {
 
 /// Everything that the program that prints a whole reading prints for a text.
 pub fn reading_output(text: &[u8]) -> Vec<u8> {
-    output("READING", "reading", text)
+    output("READING", "test_reading", text)
 }
 
 /// Everything that the program that replays calls prints for a script.

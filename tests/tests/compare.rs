@@ -98,7 +98,7 @@ fn compare_programs(seed: u64, index: u64) -> Vec<u32> {
     let whole = oracle::reading_output(&text);
     for (name, expected, actual) in [
         ("verdict", &printed, program::verdict_output(&text)),
-        ("reading", &whole, program::reading_output(&text)),
+        ("test_reading", &whole, program::reading_output(&text)),
     ] {
         assert!(
             expected.as_bytes() == actual,
@@ -141,7 +141,7 @@ fn generated_texts_through_the_programs() {
         tally.record(&compare_programs(seed, sample * stride));
     }
     tally.report(
-        &format!("verdict and reading compared on {PROGRAM_TEXTS} texts"),
+        &format!("verdict and test_reading compared on {PROGRAM_TEXTS} texts"),
         seed,
     );
     tally.require(6);

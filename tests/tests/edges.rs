@@ -32,7 +32,7 @@ fn check_refused(text: &[u8], number: u32, place: usize) {
 // The whole reading, with the place of a refusal and every entry of the table.
 fn check_whole(text: &[u8]) {
     let printed = oracle::reading_output(text);
-    assert_eq!(program::reading_output(text), printed.as_bytes(), "reading");
+    assert_eq!(program::reading_output(text), printed.as_bytes(), "test_reading");
 }
 
 // A text that is read as this table, and what m = 1 gets for it.

@@ -1,5 +1,4 @@
-//! The tables and scripts of `examples/`, which the documents use. Every expected
-//! output is a literal.
+//! The tables and scripts of `examples/`. Every expected output is a literal.
 
 use std::fs;
 use std::path::Path;

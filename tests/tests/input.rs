@@ -21,7 +21,7 @@ fn programs() -> [(PathBuf, Vec<u8>, Vec<u8>); 3] {
             b"REFUSED 1\n".to_vec(),
         ),
         (
-            path("READING", "reading"),
+            path("READING", "test_reading"),
             oracle::reading_output(b"").into_bytes(),
             oracle::reading_output(&[b'y'; 5_000]).into_bytes(),
         ),
@@ -87,7 +87,7 @@ fn pieces_make_one_text() {
     for size in [1, 7, 23] {
         let verdict = in_pieces(&path("VERDICT", "verdict"), TABLE, size);
         assert_eq!(verdict, oracle::verdict_output(TABLE).into_bytes());
-        let reading = in_pieces(&path("READING", "reading"), TABLE, size);
+        let reading = in_pieces(&path("READING", "test_reading"), TABLE, size);
         assert_eq!(reading, oracle::reading_output(TABLE).into_bytes());
     }
     let script = [b"CORES 2\n", TABLE, b"CALLS\nRELEASE 1\nSLOT\n"].concat();

@@ -12,7 +12,7 @@ unfoldable pub answerNumber : Outcome → (admits : Bool) → ℕ
 answerNumber Done admits = cond admits 1 0
 answerNumber (Refused number place) admits = 100 + number
 
--- "The reading's refusals come before number 7": the verdict is asked for only where the text was read
+-- "The reading's refusals come before number 7.": the verdict, which may be that refusal, counts only where the text was read
 unfoldable pub answerAfter : Outcome → Values → ℕ
 answerAfter Done verdict = answerNumber (verdict .outcome) (verdict .admits)
 answerAfter (Refused number place) verdict = 100 + number

@@ -20,7 +20,7 @@ pub record Values : Type 0 where
 unfoldable pub refusedValues : (number place : ℕ) → Values
 refusedValues number place = record { outcome = Out.Refused number place; count = 0; admits = false }
 
--- the values of each case of a verdict
+-- "If an answer is an enum, a definition gives this paper's number and values for each of the enum's cases.": those of a verdict
 unfoldable pub valuesOf : Verdict → Values
 valuesOf (Judged count admits) = record { outcome = Out.Done; count = count; admits = admits }
 valuesOf (Refused number place) = refusedValues number place
@@ -31,6 +31,6 @@ judgedAfter Out.Done t m =
     record { outcome = Out.Done; count = countUrgent (tasksOf t) noSlack m; admits = admitted (tasksOf t) m }
 judgedAfter (Out.Refused number place) t m = refusedValues number place
 
--- what judging a table on m cores gives
+-- what judging a table on m cores gives. "Judging or starting a given table: 3, 6, then 5 task by task, then 7" (`checked`)
 unfoldable pub judged : Table → (m : ℕ) → Values
 judged t m = judgedAfter (checked t m) t m

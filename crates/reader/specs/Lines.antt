@@ -27,7 +27,7 @@ unfoldable pub after : ℕ → List ℕ → List ℕ
 after b [] = []
 after b (x ∷ s) = cond (eqb x b) s (after b s)
 
--- how many fields a line has: one more than its spaces
+-- how many fields a line has: "separated by one space", so one more than its spaces
 unfoldable pub fieldCount : List ℕ → ℕ
 fieldCount [] = 1
 fieldCount (x ∷ l) = cond (eqb x space) (suc (fieldCount l)) (fieldCount l)

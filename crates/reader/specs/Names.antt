@@ -6,16 +6,19 @@ use lib.Dec.{eqb, ltb}
 use Rattle.reader.specs.Lines.{lineEnd, has, before, field, fieldCount}
 use Rattle.reader.specs.declared.names.Columns.{Columns}
 
--- the bytes of "PERIOD", "BUDGET" and "DEADLINE"
+-- the bytes of "PERIOD": "First a line with the names PERIOD, BUDGET and DEADLINE in any order"
 abbrev pub periodName : List ℕ
 periodName = 80 ∷ 69 ∷ 82 ∷ 73 ∷ 79 ∷ 68 ∷ []
 
+-- the bytes of "BUDGET"
 abbrev pub budgetName : List ℕ
 budgetName = 66 ∷ 85 ∷ 68 ∷ 71 ∷ 69 ∷ 84 ∷ []
 
+-- the bytes of "DEADLINE"
 abbrev pub deadlineName : List ℕ
 deadlineName = 68 ∷ 69 ∷ 65 ∷ 68 ∷ 76 ∷ 73 ∷ 78 ∷ 69 ∷ []
 
+-- whether two texts have the same bytes
 unfoldable pub sameBytes : List ℕ → List ℕ → Bool
 sameBytes [] [] = true
 sameBytes [] (y ∷ t) = false
@@ -35,7 +38,7 @@ columnsIn first second third =
       deadline = columnIn deadlineName first second third;
     }
 
--- each name is one of the three fields
+-- whether each name is one of the three fields
 unfoldable pub eachNamed : Columns → Bool
 eachNamed c = ltb (c .period) 3 && ltb (c .budget) 3 && ltb (c .deadline) 3
 
@@ -43,10 +46,10 @@ eachNamed c = ltb (c .period) 3 && ltb (c .budget) 3 && ltb (c .deadline) 3
 unfoldable pub columnsOf : List ℕ → Columns
 columnsOf l = columnsIn (field 0 l) (field 1 l) (field 2 l)
 
--- three fields, and each name is one of them: so "the three names once each"
+-- whether a line has three fields, and each name is one of them: so "the three names once each"
 unfoldable pub threeNames : List ℕ → Bool
 threeNames l = eqb (fieldCount l) 3 && eachNamed (columnsOf l)
 
--- a text begins with a names line, which is ended: what number 2 refuses otherwise
+-- whether a text begins with a names line, which is ended: else "2. The names line is missing, is not ended, or is not the three names once each."
 unfoldable pub beginsWithNames : List ℕ → Bool
 beginsWithNames s = has lineEnd s && threeNames (before lineEnd s)

@@ -21,23 +21,24 @@ use Rattle.reader.specs.Names.{columnsOf, beginsWithNames}
 unfoldable pub refused : ℕ → ℕ → Reading
 refused number place = record { table = emptyTable; outcome = Refused number place }
 
--- three well-formed values
+-- whether a line is "three well-formed values"
 unfoldable pub threeValues : List ℕ → Bool
 threeValues l = eqb (fieldCount l) 3 && isValue (field 0 l) && isValue (field 1 l) && isValue (field 2 l)
 
--- a text begins with a value line, which is ended: what number 4 refuses otherwise
+-- whether a text begins with a value line, which is ended: else "4. A value line is not three well-formed values ended by byte 10."
 unfoldable pub beginsWithValues : List ℕ → Bool
 beginsWithValues s = has lineEnd s && threeValues (before lineEnd s)
 
--- the task of a line of values, which stand "in that order" of the names
+-- the task of a line of values: "one line of values per task in that order", the order of the names
 unfoldable pub taskOf : Columns → List ℕ → Task
 taskOf c l =
     record { period = decimal (field (c .period) l); budget = decimal (field (c .budget) l); deadline = decimal (field (c .deadline) l) }
 
--- the table t is read, and nothing follows: number 6 if it has no task
+-- what reading gives where the table t is read and nothing follows: "6. The table has no task.", or the table
 unfoldable pub ended : Table → Reading
 ended t = cond (eqb (t .count) 0) (refused noTask 0) (record { table = t; outcome = Done })
 
+-- whether nothing is left of a text
 unfoldable pub isEmpty : List ℕ → Bool
 isEmpty [] = true
 isEmpty (x ∷ s) = false
@@ -52,7 +53,7 @@ valueLines c (suc n) t s =
     (cond (not (beginsWithValues s)) (refused badValueLine (t .count + 1))
     (cond (not (inRange task)) (refused taskOutOfRange (t .count + 1)) (valueLines c n (withTask t task) (after lineEnd s))))
 
--- what reading a text gives
+-- what reading a text gives. "Reading: 1 to 6": a text that is too long, then its names line, then its value lines
 unfoldable pub reading : List ℕ → Reading
 reading s =
     cond (ltb maxTextLength (length s)) (refused textTooLong 0)

@@ -13,6 +13,6 @@ zeroTask = record { period = 0; budget = 0; deadline = 0 }
 unfoldable pub emptyTable : Table
 emptyTable = record { count = 0; tasks = replicate maxTasks zeroTask }
 
--- a table of fewer than 32 tasks with a task more, "added at the end" (document 01, "The slot machine")
+-- a table of fewer than 32 tasks with a task more, "added at the end of the table" (document 01, "The slot machine")
 unfoldable pub withTask : Table → Task → Table
 withTask t task = record { count = t .count + 1; tasks = set (t .tasks) (t .count) task }

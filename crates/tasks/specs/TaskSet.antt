@@ -7,7 +7,7 @@ use Rattle.tasks.specs.declared.task.Task.{Task}
 use Rattle.tasks.specs.declared.table.Table.{Table}
 use Rattle.tasks.specs.Table.{zeroTask}
 
--- the first n of these entries
+-- the first n of these entries, as the numbers of n tasks
 unfoldable pub firstTasks : List Task → ℕ → TaskSet
 firstTasks tasks n =
     record {

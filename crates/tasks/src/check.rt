@@ -10,11 +10,12 @@ use crate::table::Table;
 use crate::task::Task;
 ghost use Prim.Native.Nat.{_≤_};
 ghost use mathlib.Core.Path.{_≡_};
+ghost use Rattle.tasks.specs.Limits.{maxTasks};
 ghost use Rattle.tasks.specs.Check.{firstOutOfRange, checked};
 
 // The number, from 1, of the first task that is out of range: 0 where there is none.
 fn first_out_of_range(tasks: [Task; MAX_TASKS], count: usize) -> u32
-    requires { ⌜ count ≤ 32 ⌝ }
+    requires { ⌜ count ≤ maxTasks ⌝ }
     ensures { λ r. ⌜ r ≡ firstOutOfRange tasks 0 count ⌝ }
 {
     let mut i: usize = 0;

@@ -1,4 +1,4 @@
-// Task tables: the types, limits and refusal numbers that every other crate names.
+// Task tables: the types, the limits, the refusal numbers, and whether a table and a number of cores can be used.
 pub mod check;
 pub mod limits;
 pub mod outcome;

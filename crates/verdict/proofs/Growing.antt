@@ -11,7 +11,7 @@ use Rattle.judge.specs.Judge.{judged}
 use Rattle.reader.specs.Lines.{space, lineEnd}
 use Rattle.verdict.specs.Text.{decimalText, verdictLine}
 use Rattle.verdict.specs.declared.buffer.Buffer.{Buffer}
-use Rattle.verdict.specs.Grown.{held, Grown, Holds}
+use Rattle.verdict.specs.Grown.{room, held, Grown, Holds}
 
 pub grown-none : (a : Buffer) → Grown a [] a
 grown-none a = record { holds = sym (append-nil (held a)); count = omega arith }
@@ -23,7 +23,7 @@ grown-more a b c s t p q =
       count = omega (arith, p .count, q .count, length-append s t);
     }
 
-pub grown-all : (a b : Buffer) (s : List ℕ) → a .length ≡ 0 → Grown a s b → length s ≤ 160 → Holds s b
+pub grown-all : (a b : Buffer) (s : List ℕ) → a .length ≡ 0 → Grown a s b → length s ≤ room → Holds s b
 unfolding held
 grown-all a b s e p h = record { holds = p .holds ∙ rw e; within = omega (arith, p .count) }
 

@@ -11,11 +11,11 @@ use Rattle.reader.specs.Lines.{lineEnd, space}
 use Rattle.reader.specs.Reading.{reading}
 use Rattle.judge.specs.Judge.{judged}
 
--- "CORES COUNT ADMIT" and byte 10: "a line of names"
+-- "a line of names": the bytes of "CORES COUNT ADMIT", and byte 10
 unfoldable pub header : List ℕ
 header = 67 ∷ 79 ∷ 82 ∷ 69 ∷ 83 ∷ 32 ∷ 67 ∷ 79 ∷ 85 ∷ 78 ∷ 84 ∷ 32 ∷ 65 ∷ 68 ∷ 77 ∷ 73 ∷ 84 ∷ 10 ∷ []
 
--- "REFUSED" and a space
+-- "A refused table prints `REFUSED`, a space": the bytes of both
 unfoldable pub refusedWord : List ℕ
 refusedWord = 82 ∷ 69 ∷ 70 ∷ 85 ∷ 83 ∷ 69 ∷ 68 ∷ 32 ∷ []
 
@@ -38,6 +38,6 @@ unfoldable pub printedAfter : Outcome → Table → List ℕ
 printedAfter Done t = verdictLines t (min maxCores (t .count))
 printedAfter (Refused number place) t = refusedWord ++ decimalText number ++ lineEnd ∷ []
 
--- what is printed for a text
+-- "The verdict program reads a table from standard input and prints": what it prints for a text
 unfoldable pub printed : List ℕ → List ℕ
 printed text = printedAfter (reading text .outcome) (reading text .table)

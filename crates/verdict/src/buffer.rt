@@ -5,9 +5,9 @@ ghost use mathlib.Core.Path.{_≡_};
 ghost use mathlib.Core.List.{List, [], _∷_};
 ghost use lib.ListN.{length as listLength};
 ghost use Rattle.verdict.specs.Text.{decimalText};
-ghost use Rattle.verdict.specs.Grown.{Grown};
+ghost use Rattle.verdict.specs.Grown.{room, Grown};
 
-// Room for the line of names and sixteen verdict lines.
+// Room for the line of names and sixteen verdict lines, in contracts `room`.
 pub const ROOM: usize = 160;
 
 // The first `length` bytes are held.
@@ -28,7 +28,7 @@ impl Buffer {
     }
 
     pub fn with_byte(mut self, byte: u8) -> Self
-        requires { ⌜ self .length < 160 ⌝ }
+        requires { ⌜ self .length < room ⌝ }
         ensures { λ r. ⌜ Grown self (byte ∷ []) r ⌝ }
     {
         let at = self.length;
@@ -38,7 +38,7 @@ impl Buffer {
     }
 
     pub fn with_text(self, text: &[u8]) -> Self
-        requires { ⌜ self .length + listLength (now text) ≤ 160 ⌝ }
+        requires { ⌜ self .length + listLength (now text) ≤ room ⌝ }
         ensures { λ r. ⌜ Grown self (now (text .entry)) r ⌝ }
     {
         let mut buffer = self;
@@ -52,7 +52,7 @@ impl Buffer {
 
     // A number below 100 in base ten.
     pub fn with_number(self, number: u32) -> Self
-        requires { ⌜ (number < 100) × (self .length + 2 ≤ 160) ⌝ }
+        requires { ⌜ (number < 100) × (self .length + 2 ≤ room) ⌝ }
         ensures { λ r. ⌜ Grown self (decimalText number) r ⌝ }
     {
         if number < 10 {

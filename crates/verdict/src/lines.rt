@@ -8,7 +8,7 @@ ghost use mathlib.Core.Path.{_≡_};
 ghost use mathlib.Core.Bool.{cond};
 ghost use Rattle.tasks.specs.Limits.{maxCores};
 ghost use Rattle.verdict.specs.Text.{verdictLine, verdictLines, printed};
-ghost use Rattle.verdict.specs.Grown.{Grown, Holds};
+ghost use Rattle.verdict.specs.Grown.{room, Grown, Holds};
 
 // 1 for admitted or 0, as a byte.
 fn admit_byte(admits: bool) -> u8
@@ -19,7 +19,7 @@ fn admit_byte(admits: bool) -> u8
 
 // The line of a number of cores: the number, COUNT, and 1 for admitted or 0.
 fn with_line(buffer: Buffer, table: Table, cores: u32) -> Buffer
-    requires { ⌜ (cores < 100) × (buffer .length + 8 ≤ 160) ⌝ }
+    requires { ⌜ (cores < 100) × (buffer .length + 8 ≤ room) ⌝ }
     ensures { λ r. ⌜ Grown buffer (verdictLine table cores) r ⌝ }
 {
     let verdict = judge::judge(table, cores);

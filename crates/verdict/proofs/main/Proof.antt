@@ -5,6 +5,7 @@ use mathlib.Core.Path.{_≡_, sym}
 use lib.ListN.{length}
 use lib.Seq.{length-take-le}
 use borrow.Author.Needs.{needs}
+use Rattle.verdict.specs.Grown.{room}
 use Rattle.verdict.proofs.main.Statement.{statement}
 use Rattle.verdict.proofs.main.Tie as tie
 
@@ -26,7 +27,7 @@ printed-for-requires c κs = search needs
 -- what is printed lies within the buffer
 fits : (c : tie.After-printed-for) → c .printed-for .result .length ≤ length (c .printed-for .result .bytes)
 fits c =
-    let e : length (c .printed-for .result .bytes) ≡ 160 = search needs in
+    let e : length (c .printed-for .result .bytes) ≡ room = search needs in
     omega (arith, c .printed-for .ensures .within)
 
 array-share-prefix-bytes : tie.Need-array-share-prefix-bytes

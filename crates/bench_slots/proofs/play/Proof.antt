@@ -2,14 +2,15 @@
 use Prim.Native.Nat.{_+_, _-_, _*_, _≤_}
 use native.Mathlib.Omega.{arith}
 use borrow.Author.Needs.{needs}
-use Rattle.slots.proofs.play.Statement.{statement}
-use Rattle.slots.proofs.play.Tie as tie
+use Rattle.tasks.specs.Limits.{maxTasks}
+use Rattle.bench_slots.proofs.play.Statement.{statement}
+use Rattle.bench_slots.proofs.play.Tie as tie
 
 abbrev Inv-loop : tie.InvT-loop
 Inv-loop count slots after₀ sum₀ number₀ next₀ after sum number next = (number ≤ slots) × (next ≤ count)
 
 abbrev μ-loop : tie.MeasureT-loop
-μ-loop count slots after₀ sum₀ number₀ next₀ after sum number next = 33 * (slots - number) + (count - next)
+μ-loop count slots after₀ sum₀ number₀ next₀ after sum number next = (maxTasks + 1) * (slots - number) + (count - next)
 
 loop-holds : tie.Need-loop-holds Inv-loop μ-loop
 loop-holds c = omega arith

@@ -1,15 +1,16 @@
--- `print_tasks` is safe and ends: its index stays below the 32 entries.
+-- `print_tasks` is safe and ends: its index stays below the number of entries.
 use Prim.Native.Nat.{_-_, _≤_}
 use native.Mathlib.Omega.{arith}
 use borrow.Author.Needs.{needs}
-use Rattle.reading.proofs.print_tasks.Statement.{statement}
-use Rattle.reading.proofs.print_tasks.Tie as tie
+use Rattle.tasks.specs.Limits.{maxTasks}
+use Rattle.test_reading.proofs.print_tasks.Statement.{statement}
+use Rattle.test_reading.proofs.print_tasks.Tie as tie
 
 abbrev Inv-loop : tie.InvT-loop
-Inv-loop tasks i₀ i = i ≤ 32
+Inv-loop tasks i₀ i = i ≤ maxTasks
 
 abbrev μ-loop : tie.MeasureT-loop
-μ-loop tasks i₀ i = 32 - i
+μ-loop tasks i₀ i = maxTasks - i
 
 loop-holds : tie.Need-loop-holds Inv-loop μ-loop
 loop-holds c = omega arith

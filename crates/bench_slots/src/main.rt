@@ -6,11 +6,12 @@ use machine::answer::Report;
 use machine::answer::mask;
 use machine::machine::Machine;
 use tasks::limits::MAX_TASKS;
+use tasks::limits::MAX_TEXT_LENGTH;
 ghost use Prim.Native.Nat.{_≤_};
 ghost use Rattle.tasks.specs.Limits.{maxTasks};
 
 // One byte more than a text may have, so that a longer one is seen to be too long.
-const MOST: usize = 4_097;
+const MOST: usize = MAX_TEXT_LENGTH + 1;
 
 // The slots that are played.
 const SLOTS: u64 = 1_000_000;

@@ -1,11 +1,13 @@
 // Prints what reading standard input gives, with the place of a refusal and every task: for tests.
 use libc::STDIN_FILENO;
 use libc::STDOUT_FILENO;
+use tasks::limits::MAX_TASKS;
+use tasks::limits::MAX_TEXT_LENGTH;
 use tasks::outcome::Outcome;
 use tasks::task::Task;
 
-// One more byte than a text may have, so that a longer one is seen to be too long.
-const ROOM: usize = 4_097;
+// One byte more than a text may have, so that a longer one is seen to be too long.
+const MOST: usize = MAX_TEXT_LENGTH + 1;
 
 fn print_field(number: u32, end: &[u8]) {
     io::print_decimal(STDOUT_FILENO, number as u64);
@@ -18,10 +20,10 @@ fn print_task(task: Task) {
     print_field(task.deadline, b"\n");
 }
 
-// All 32 entries, so that those past the count are seen too.
-fn print_tasks(tasks: [Task; 32]) {
+// All entries, so that those past the count are seen too.
+fn print_tasks(tasks: [Task; MAX_TASKS]) {
     let mut i: usize = 0;
-    while i < 32 {
+    while i < MAX_TASKS {
         print_task(tasks[i]);
         i += 1;
     }
@@ -52,7 +54,7 @@ fn print_reading(text: &[u8]) {
 }
 
 fn main() {
-    let mut space = [0u8; ROOM];
+    let mut space = [0u8; MOST];
     let n = io::read_full(STDIN_FILENO, &mut space);
     print_reading(&space[..n]);
 }
