@@ -99,10 +99,15 @@ fn replay(script: &[u8], output: &mut [u8]) -> usize
     }
 }
 
-fn main() {
-    let mut space = [0u8; INPUT_ROOM];
-    let mut output = [0u8; OUTPUT_ROOM];
-    let n = io::read_full(STDIN_FILENO, &mut space);
-    let used = replay(&space[..n], &mut output);
+// Reads a script into one array and writes what is printed for it from the other.
+fn print(space: [u8; INPUT_ROOM], room: [u8; OUTPUT_ROOM]) {
+    let mut script = space;
+    let mut output = room;
+    let n = io::read_full(STDIN_FILENO, &mut script);
+    let used = replay(&script[..n], &mut output);
     io::write_all(STDOUT_FILENO, &output[..used]);
+}
+
+fn main() {
+    print([0; INPUT_ROOM], [0; OUTPUT_ROOM]);
 }
