@@ -17,7 +17,7 @@ mod words;
 ghost use Prim.Native.Nat.{_≤_};
 ghost use lib.ListN.{length};
 ghost use Rattle.replay.specs.Lines.{lines, unended};
-ghost use Rattle.replay.specs.Grown.{Holds};
+ghost use Rattle.text.specs.Output.{Holds};
 ghost use Rattle.replay.specs.Script.{answers, printedFor, printed};
 
 // The most bytes that a script has.
