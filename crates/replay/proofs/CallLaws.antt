@@ -1,6 +1,6 @@
 -- Laws of the calls of a script. Others cite `Looking` with its laws (the search for the line CALLS), `found-within` (where it is found), the laws
 -- of `joinOf` at each field, and `call-long` (a call's line has four bytes or more).
-use Prim.Native.Nat.{ℕ, suc, _+_, _-_, _≤_, _<_}
+use Prim.Native.Nat.{ℕ, suc, _+_, _≤_, _<_}
 use native.Mathlib.Omega.{arith}
 use mathlib.Core.Path.{_≡_, refl, sym, ap, _∙_}
 use mathlib.Core.Bool.{Bool, true, false, cond, false≢true}

@@ -30,11 +30,10 @@ const INPUT_ROOM: usize = 65_537;
 const OUTPUT_ROOM: usize = 589_856;
 
 // Puts the answers to the calls of a text, the first of which is on the line `first` of the script.
-fn play(text: &[u8], started: Machine, first: usize, output: &mut [u8]) -> usize
+fn play(text: &[u8], mut machine: Machine, first: usize, output: &mut [u8]) -> usize
     requires { ⌜ (length (now text) ≤ 65536) × (first ≤ 65539) × (589856 ≤ length (now output)) ⌝ }
-    ensures { λ r. ⌜ Holds (answers started first (lines (now (text .entry))) (unended (now (text .entry)))) (now (output .exit)) r ⌝ }
+    ensures { λ r. ⌜ Holds (answers machine first (lines (now (text .entry))) (unended (now (text .entry)))) (now (output .exit)) r ⌝ }
 {
-    let mut machine = started;
     let mut rest = text;
     let mut line = first;
     let mut used: usize = 0;

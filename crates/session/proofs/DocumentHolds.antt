@@ -1,5 +1,5 @@
 -- What is printed is what document 01 says: antt computes it. Others cite `document-holds` and `printed-few`.
-use Prim.Native.Nat.{ℕ, _≤_}
+use Prim.Native.Nat.{_≤_}
 use native.Mathlib.Omega.{arith}
 use mathlib.Core.Path.{_≡_, refl}
 use lib.ListN.{length}

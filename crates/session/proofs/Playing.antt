@@ -2,7 +2,7 @@
 -- `session-lines` (a case), and `Playing` with `play-none`, `play-more` and `play-all` (the loop of slots).
 use Prim.Native.Nat.{ℕ, suc, _+_, _-_, _≤_, _<_}
 use native.Mathlib.Omega.{arith}
-use mathlib.Core.Path.{_≡_, refl, sym, ap, _∙_}
+use mathlib.Core.Path.{_≡_, refl, _∙_}
 use mathlib.Core.List.{List, [], _∷_, _++_, append-nil, append-assoc}
 use lib.ListN.{length, replicate}
 use Rattle.text.specs.Output.{Grown}

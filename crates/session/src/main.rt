@@ -34,23 +34,23 @@ fn put_slot(output: &mut [u8], used: usize, number: u64, report: Report) -> usiz
 }
 
 // Puts a line for each of the next slots of a machine.
-fn play(output: &mut [u8], used: usize, machine: Machine, slots: u64) -> usize
+fn play(output: &mut [u8], used: usize, mut machine: Machine, slots: u64) -> usize
     requires { ⌜ used ≤ length (now output) + 1 ⌝ }
     ensures { λ r. ⌜ Grown (now (output .entry)) used (slotLinesFrom 1 (log machine (replicate slots Slot))) (now (output .exit)) r ⌝ }
 {
-    let mut after = machine;
     let mut at = used;
     let mut number: u64 = 0;
     while number < slots {
         number += 1;
-        let answer = after.slot();
+        let answer = machine.slot();
         let report = answer.report;
         at = put_slot(output, at, number, report);
-        after = answer.machine;
+        machine = answer.machine;
     }
     at
 }
 
+// The task of three numbers.
 fn task(period: u32, budget: u32, deadline: u32) -> Task
     ensures { λ r. ⌜ r ≡ task period budget deadline ⌝ }
 {
@@ -62,17 +62,16 @@ fn task(period: u32, budget: u32, deadline: u32) -> Task
 }
 
 // The machine after the release of its first `count` tasks, which print nothing.
-fn released(machine: Machine, count: u32) -> Machine
+fn released(mut machine: Machine, count: u32) -> Machine
     ensures { λ r. ⌜ ((calls : List Call) → slotLinesFrom 1 (log machine (releases count ++ calls)) ≡ slotLinesFrom 1 (log r calls)) ⌝ }
 {
-    let mut after = machine;
     let mut number: u32 = 0;
     while number < count {
         number += 1;
-        let answer = after.release(number);
-        after = answer.machine;
+        let answer = machine.release(number);
+        machine = answer.machine;
     }
-    after
+    machine
 }
 
 // Tasks 6, 2, 3; 6, 2, 3; 6, 5, 6 on 2 cores.

@@ -15,11 +15,11 @@ use Rattle.replay.proofs.play.Statement.{statement}
 use Rattle.replay.proofs.play.Tie as tie
 
 abbrev Inv-loop : tie.InvT-loop
-Inv-loop text first output₀ machine₀ rest₀ line₀ used₀ output machine rest line used =
+Inv-loop text machine₀ first output₀ rest₀ line₀ used₀ machine output rest line used =
     Playing (answers machine₀ first (lines text) (unended text)) output used machine line rest × (length output ≡ length output₀)
 
 abbrev μ-loop : tie.MeasureT-loop
-μ-loop text first output₀ machine₀ rest₀ line₀ used₀ output machine rest line used = length rest
+μ-loop text machine₀ first output₀ rest₀ line₀ used₀ machine output rest line used = length rest
 
 loop-holds : tie.Need-loop-holds Inv-loop μ-loop
 loop-holds c = let h = c .before .before .pre in (play-none _ _ _ _ (h .0) (h .1) (h .2), refl)

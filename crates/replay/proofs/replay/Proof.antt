@@ -1,5 +1,5 @@
 -- `replay` meets its contract: by the script's length, its first line, and the line of its calls.
-use Prim.Native.Nat.{ℕ, _+_, _-_, _≤_, _<_}
+use Prim.Native.Nat.{ℕ, _+_, _≤_, _<_}
 use native.Mathlib.Nat.{le-of-lt}
 use native.Mathlib.Omega.{arith}
 use mathlib.Core.Path.{_≡_, sym, ap, _∙_}
@@ -75,7 +75,7 @@ returns c =
     let p = c .before .before in
     let t = p .before .before in
     let h : 65536 < length (t .before .before .before .args .script .now) = omega (arith, t .if1 .taken) in
-    rw (lt-ltb _ _ h) (line-all _ _ _ _ (search needs) (p .put-refused .ensures))
+    rw (lt-ltb _ _ h) (line-all _ _ _ _ (t .before .before .before .pre) (p .put-refused .ensures))
 
 find-requires : tie.Need-find-requires
 find-requires c κs = search needs
@@ -90,7 +90,8 @@ returns-2 : tie.Need-returns-2
 returns-2 c =
     let p = c .before .before in
     let t = p .before .before in
-    rw (first-unended _ (script-few (t .before .before)) _ (t .before .find .ensures) (t .if2 .taken)) (line-all _ _ _ _ (search needs) (p .put-bad-line .ensures))
+    rw (first-unended _ (script-few (t .before .before)) _ (t .before .find .ensures) (t .if2 .taken))
+    (line-all _ _ _ _ (t .before .before .before .before .before .pre) (p .put-bad-line .ensures))
 
 slice-aggregate-numbered-line : tie.Need-slice-aggregate-numbered-line
 slice-aggregate-numbered-line c = sym (length-take-le _ _ (le-of-lt (c .before .if2 .left)))
@@ -120,7 +121,7 @@ returns-3 c =
     let n = t .before .before in
     let e = n .before .before .before in
     rw (first-broken _ (script-few (e .before .before)) _ (e .before .find .ensures) (e .if2 .left) (sym (n .numbered-line .ensures) ∙ t .enum-told .given .1))
-    (line-all _ _ _ _ (search needs) (p .put-bad-line2 .ensures))
+    (line-all _ _ _ _ (room e) (p .put-bad-line2 .ensures))
 
 add-text : tie.Need-add-text
 add-text c = search needs

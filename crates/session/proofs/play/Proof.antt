@@ -2,16 +2,15 @@
 use Prim.Native.Nat.{_-_}
 use native.Mathlib.Omega.{arith}
 use borrow.Author.Needs.{needs}
-use mathlib.Core.Path.{_≡_}
 use Rattle.session.proofs.Playing.{Playing, play-none, play-more, play-all}
 use Rattle.session.proofs.play.Statement.{statement}
 use Rattle.session.proofs.play.Tie as tie
 
 abbrev Inv-loop : tie.InvT-loop
-Inv-loop output₀ used slots after₀ at₀ number₀ output after at number = Playing output₀ used after₀ slots output at after number
+Inv-loop output₀ used machine₀ slots at₀ number₀ output machine at number = Playing output₀ used machine₀ slots output at machine number
 
 abbrev μ-loop : tie.MeasureT-loop
-μ-loop output₀ used slots after₀ at₀ number₀ output after at number = slots - number
+μ-loop output₀ used machine₀ slots at₀ number₀ output machine at number = slots - number
 
 loop-holds : tie.Need-loop-holds Inv-loop μ-loop
 loop-holds c = play-none _ _ _ _ (c .before .pre)

@@ -9,10 +9,10 @@ use Rattle.session.proofs.released.Statement.{statement}
 use Rattle.session.proofs.released.Tie as tie
 
 abbrev Inv-loop : tie.InvT-loop
-Inv-loop count after₀ number₀ after number = (number ≤ count) × Released after₀ number after
+Inv-loop machine₀ count number₀ machine number = (number ≤ count) × Released machine₀ number machine
 
 abbrev μ-loop : tie.MeasureT-loop
-μ-loop count after₀ number₀ after number = count - number
+μ-loop machine₀ count number₀ machine number = count - number
 
 loop-holds : tie.Need-loop-holds Inv-loop μ-loop
 loop-holds c = (omega arith, released-none _)
