@@ -1,6 +1,6 @@
--- Laws of the calls of a script. Others cite `Looking` with its laws (the search for the line CALLS), `found-within` and `missing-few` (where it is
--- found), the laws of `joinOf` at each field, and `call-long` (a call's line has four bytes or more).
-use Prim.Native.Nat.{ℕ, suc, _+_, _-_, _≤_, _<_}
+-- Laws of the calls of a script. Others cite `Looking` with its laws (the search for the line CALLS), `found-within` (where it is found), the laws
+-- of `joinOf` at each field, and `call-long` (a call's line has four bytes or more).
+use Prim.Native.Nat.{ℕ, suc, _+_, _≤_, _<_}
 use native.Mathlib.Omega.{arith}
 use mathlib.Core.Path.{_≡_, refl, sym, ap, _∙_}
 use mathlib.Core.Bool.{Bool, true, false, cond, false≢true}
@@ -111,23 +111,6 @@ found-within s t k l e =
     let w = found-from 0 2 (lines s) t k l e (omega arith) in
     let m = total-lines s in
     record { ends = omega (arith, w .ends); starts = omega (arith, w .starts); few = omega (arith, w .few) }
-
-missing-from : (place n : ℕ) (ls : List (List ℕ)) (l : ℕ) → callsFrom place n ls ≡ Missing l → l ≤ n + total ls
-unfolding callsFrom total
-missing-from place n [] l e = let q : n ≡ l = cc in omega arith
-missing-from place n (x ∷ ls) l e = go (sameBytes x callsWord) e (missing-from (place + length x + 1) (n + 1) ls l)
-  where
-    go :
-        (b : Bool)
-        → cond b (Found place (place + length x + 1) (n + 1)) (callsFrom (place + length x + 1) (n + 1) ls) ≡ Missing l
-        → (callsFrom (place + length x + 1) (n + 1) ls ≡ Missing l → l ≤ n + 1 + total ls)
-        → l ≤ n + (length x + 1 + total ls)
-    go true e ih = let z : _≡_ {A = ℕ} 0 1 = cc in absurd (omega arith)
-    go false e ih = let w = ih e in omega arith
-
-pub missing-few : (s : List ℕ) (l : ℕ) → callsStart s ≡ Missing l → l ≤ length s + 2
-unfolding callsStart
-missing-few s l e = omega (arith, missing-from 0 2 (lines s) l e, total-lines s)
 
 -- an empty field is no number, and a join whose last field is none is bad
 no-number : numberOf [] ≡ Number.Broken

@@ -3,7 +3,6 @@ pub mod NumberLaws
 pub mod DigitLaws
 pub mod LineLaws
 pub mod CallLaws
-pub mod Growing
 pub mod OutputLaws
 pub mod Playing
 pub mod ScriptLaws

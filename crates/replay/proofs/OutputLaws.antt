@@ -1,58 +1,45 @@
--- How long the lines of the output are, and that a mask of 32 tasks has 32 bits.
-use Prim.Native.Nat.{ℕ, _+_, _^_, _≤_, _<_}
+-- The lines of the output: how long they are, and the parts that they are put together from. Others cite `numbered-line`, `done-line`, `done-put` and
+-- `report-few` for one kind of line each, and `line-longer` and `line-all`.
+use Prim.Native.Nat.{ℕ, _^_, _≤_, _<_}
 use native.Mathlib.Nat.{pow-suc}
 use native.Mathlib.Omega.{arith}
 use mathlib.Core.Path.{_≡_, refl}
 use mathlib.Core.Logic.{⊎-elim}
 use mathlib.Core.Bool.{Bool, true, false}
-use mathlib.Core.List.{List, [], _∷_, _++_, append-assoc}
+use mathlib.Core.List.{List, [], _∷_, _++_}
 use lib.ListN.{length, length-append}
 use types.Run.{OneOf}
 use denote.Enum.Declared.{tagOf}
-use Rattle.reader.specs.Lines.{space, lineEnd}
-use Rattle.tasks.specs.declared.outcome.Outcome.{Outcome}
-use Rattle.tasks.specs.declared.outcome.Outcome.the-variants.{Done, Refused}
+use Rattle.text.specs.Number.{decimalText}
+use Rattle.text.specs.Output.{Put, Holds}
+use Rattle.text.proofs.Digits.{text-few}
+use Rattle.text.proofs.Growing.{put-grown, grown-more, grown-all}
+use Rattle.reader.specs.Lines.{lineEnd}
 use Rattle.machine.specs.declared.call.Call.{Call}
 use Rattle.machine.proofs.call.Call.{the-type}
 use Rattle.machine.specs.declared.call.Call.the-variants.{Release, Finish, Slot, Join}
-use Rattle.machine.specs.declared.answer.Answer.{Answer}
 use Rattle.machine.specs.declared.answer.Report.{Report}
 use Rattle.machine.specs.Mask.{mask}
 use Rattle.machine.proofs.Computing.{computing}
 use Rattle.replay.specs.Words.{doneWord}
-use Rattle.replay.specs.Grown.{Grown}
-use Rattle.replay.specs.Numbers.{decimalText}
-use Rattle.replay.specs.Output.{refusedLine, reportLine, acceptedLine, outcomeLine, answerLine}
-use Rattle.replay.proofs.DigitLaws.{text-few}
-use Rattle.replay.proofs.Growing.{grown-more}
+use Rattle.replay.specs.Output.{Line, reportLine, acceptedLine}
 
--- a number with the byte that follows it
-pub number-few : (n b : ℕ) → length (decimalText n ++ b ∷ []) ≤ 11
-number-few n b = simp length-append (omega (arith, text-few n))
+-- what holds of a line of at most 32 bytes: it has at most 44, and room at the start of the output
+pub line-longer : (a b s : List ℕ) (u r : ℕ) → Line 32 a u s b r → Line 44 a u s b r
+line-longer a b s u r l = record { grown = l .grown; few = omega (arith, l .few) }
 
-report-few : (r : Report) → length (reportLine r) ≤ 44
-unfolding reportLine
-report-few r =
-    simp length-append (omega (arith, text-few (mask (r .ran)), text-few (mask (r .finished)), text-few (mask (r .late)), text-few (r .runners)))
+pub line-all : (a b s : List ℕ) (r : ℕ) → 589856 ≤ length a → Line 32 a 0 s b r → Holds s b r
+line-all a b s r h l = grown-all a b s r (l .grown) (omega (arith, l .few))
 
-refused-few : (n : ℕ) → length (refusedLine n) ≤ 44
-unfolding refusedLine
-refused-few n = omega (arith, number-few n lineEnd)
-
-accepted-few : (call : Call) (r : Report) → length (acceptedLine call r) ≤ 44
-unfolding acceptedLine
-accepted-few (Release i) r = omega arith
-accepted-few (Finish i) r = omega arith
-accepted-few Slot r = report-few r
-accepted-few (Join t) r = omega arith
-
-pub answer-few : (call : Call) (a : Answer) → length (answerLine call a) ≤ 44
-unfolding answerLine outcomeLine
-answer-few call a = go (a .outcome)
-  where
-    go : (o : Outcome) → length (outcomeLine o call (a .report)) ≤ 44
-    go Done = accepted-few call (a .report)
-    go (Refused number place) = refused-few number
+-- a word, and a number with its byte 10
+pub numbered-line :
+    (word : List ℕ) → length word ≤ 11 → (a b c : List ℕ) (n u v w : ℕ) → n < 2 ^ 64 → Put a u word b v → Put b v (decimalText n ++ lineEnd ∷ []) c w
+    → Line 32 a u (word ++ (decimalText n ++ lineEnd ∷ [])) c w
+numbered-line word l a b c n u v w h p q =
+    record {
+      grown = grown-more a b word u v (put-grown a b word u v p) c _ w (put-grown b c _ v w q);
+      few = simp length-append (omega (arith, text-few 19 n (omega arith)));
+    }
 
 -- the line of an accepted call that is no slot: the calls' tags are 0 to 3, and a slot's is 2
 pub done-line : (call : Call) (r : Report) → OneOf (0 ∷ 1 ∷ 3 ∷ []) (tagOf the-type call) → acceptedLine call r ≡ doneWord ++ lineEnd ∷ []
@@ -62,16 +49,8 @@ done-line (Finish i) r h = refl
 done-line Slot r h = absurd (⊎-elim (λ e. omega (arith, e)) (λ h. ⊎-elim (λ e. omega (arith, e)) (λ e. omega (arith, e)) h) h)
 done-line (Join t) r h = refl
 
--- the four numbers of a report, put one after the other
-pub report-parts :
-    (a b c d e t₁ t₂ t₃ t₄ : List ℕ) (u v w x y : ℕ) → Grown a u (t₁ ++ space ∷ []) b v → Grown b v (t₂ ++ space ∷ []) c w
-    → Grown c w (t₃ ++ space ∷ []) d x → Grown d x (t₄ ++ lineEnd ∷ []) e y
-    → Grown a u (t₁ ++ space ∷ t₂ ++ space ∷ t₃ ++ space ∷ t₄ ++ lineEnd ∷ []) e y
-report-parts a b c d e t₁ t₂ t₃ t₄ u v w x y p q r s =
-    simp append-assoc
-    (simp append-assoc at
-    (grown-more a b e (t₁ ++ space ∷ []) _ u v y p
-    (grown-more b c e (t₂ ++ space ∷ []) _ v w y q (grown-more c d e (t₃ ++ space ∷ []) (t₄ ++ lineEnd ∷ []) w x y r s))))
+pub done-put : (a b : List ℕ) (u r : ℕ) → Put a u (doneWord ++ lineEnd ∷ []) b r → Line 44 a u (doneWord ++ lineEnd ∷ []) b r
+done-put a b u r p = record { grown = put-grown a b _ u r p; few = omega arith }
 
 mask-below : (named : List Bool) → mask named < 2 ^ length named
 unfolding computing
@@ -79,5 +58,13 @@ mask-below [] = omega arith
 mask-below (true ∷ named) = omega (arith, pow-suc 2 (length named), mask-below named)
 mask-below (false ∷ named) = omega (arith, pow-suc 2 (length named), mask-below named)
 
-pub mask-small : (named : List Bool) (r : ℕ) → r ≡ mask named → length named ≡ 32 → r < 2 ^ 32
-mask-small named r e l = rw e (rw l at (mask-below named))
+-- a mask of 32 tasks has 32 bits, and so at most ten digits
+mask-few : (named : List Bool) → length named ≡ 32 → length (decimalText (mask named)) ≤ 10
+mask-few named l = let h : mask named < 2 ^ 32 = rw l at (mask-below named) in text-few 9 (mask named) (omega arith)
+
+pub report-few :
+    (r : Report) → length (r .ran) ≡ 32 → length (r .finished) ≡ 32 → length (r .late) ≡ 32 → r .runners < 2 ^ 32 → length (reportLine r) ≤ 44
+unfolding reportLine
+report-few r a b c h =
+    simp length-append
+    (omega (arith, mask-few (r .ran) a, mask-few (r .finished) b, mask-few (r .late) c, text-few 9 (r .runners) (omega arith)))

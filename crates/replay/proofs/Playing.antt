@@ -7,6 +7,8 @@ use mathlib.Core.Bool.{false}
 use mathlib.Core.List.{List, [], _∷_, _++_, append-nil, append-assoc}
 use lib.ListN.{length, take}
 use lib.Seq.{length-take-le}
+use Rattle.text.specs.Output.{Holds}
+use Rattle.text.proofs.Growing.{grown-after, grown-count}
 use Rattle.reader.specs.Lines.{lineEnd, has, before, after}
 use Rattle.reader.specs.Reading.{isEmpty}
 use Rattle.reader.proofs.Scan.{cut, hasnt-of}
@@ -18,13 +20,10 @@ use Rattle.machine.specs.declared.call.Call.{Call}
 use Rattle.replay.specs.declared.calls.CallLine.the-variants.{Read, Bad}
 use Rattle.replay.specs.Lines.{lines, unended}
 use Rattle.replay.specs.Calls.{callOf}
-use Rattle.replay.specs.Output.{badLine, answerLine}
+use Rattle.replay.specs.Output.{Line, badLine, answerLine}
 use Rattle.replay.specs.Script.{onCall, answers}
-use Rattle.replay.specs.Grown.{Grown, Holds}
 use Rattle.replay.proofs.LineLaws.{lines-more, lines-none, unended-more, unended-all}
 use Rattle.replay.proofs.CallLaws.{call-long}
-use Rattle.replay.proofs.OutputLaws.{answer-few}
-use Rattle.replay.proofs.Growing.{grown-after}
 
 -- the answers to the calls of a text
 abbrev answered : Machine → ℕ → List ℕ → List ℕ
@@ -61,9 +60,9 @@ module _ (whole bytes : List ℕ) (used : ℕ) (m : Machine) (n : ℕ) (s : List
       record { holds = sym e; count = omega (arith, ap length e, length-take-le used bytes within) }
 
   -- a line that is no call, after which the array has grown by its line
-  module _ (after : List ℕ) (r : ℕ) (g : Grown bytes used (badLine n) after r) where
+  module _ (after : List ℕ) (r : ℕ) (g : Line 32 bytes used (badLine n) after r) where
     stopped : answered m n s ≡ badLine n → Holds whole after r
-    stopped e = rw (p .left, e) (grown-after bytes after (badLine n) used r within g)
+    stopped e = rw (p .left, e) (grown-after bytes after (badLine n) used r (g .grown) (omega (arith, g .few, p .room, p .size)))
 
     pub not-ended : (k : ℕ) → k ≡ length (before lineEnd s) → 0 < length s → length s ≤ k → Holds whole after r
     unfolding answers
@@ -82,17 +81,16 @@ module _ (whole bytes : List ℕ) (used : ℕ) (m : Machine) (n : ℕ) (s : List
     long : 4 ≤ k
     long = omega (arith, call-long (take k s) call b, length-take-le k s (omega arith))
 
-    pub room-for : used + 44 ≤ length bytes
-    room-for = omega (arith, long, p .room, p .size)
-
     pub shorter : length (past s k) < length s
     shorter = omega (arith, rest-length s (k + 1))
 
     pub play-more :
-        (after : List ℕ) (r : ℕ) → Grown bytes used (answerLine call (step m call)) after r → length after ≡ length bytes
+        (after : List ℕ) (r : ℕ) → Line 44 bytes used (answerLine call (step m call)) after r
         → Playing whole after r (step m call .machine) (n + 1) (past s k)
     unfolding answers onCall
-    play-more after r g l =
+    play-more after r g =
+        let f : used + length (answerLine call (step m call)) ≤ length bytes = omega (arith, g .few, long, p .room, p .size) in
+        let z = grown-count bytes after (answerLine call (step m call)) used r (g .grown) f in
         let d = cut lineEnd s k e h in
         let q : answered m n s ≡ answerLine call (step m call) ++ answered (step m call .machine) (n + 1) (past s k) =
         rw (lines-more s (d .is), unended-more s (d .is), ← d .front, b, d .rest)
@@ -100,8 +98,8 @@ module _ (whole bytes : List ℕ) (used : ℕ) (m : Machine) (n : ℕ) (s : List
         record {
           left =
               p .left ∙ rw q (sym (append-assoc (take used bytes) (answerLine call (step m call)) (answered (step m call .machine) (n + 1) (past s k))))
-              ∙ ap (λ (t : List ℕ). t ++ answered (step m call .machine) (n + 1) (past s k)) (sym (g .holds));
-          room = omega (arith, g .count, answer-few call (step m call), long, p .room, rest-length s (k + 1));
-          size = omega (arith, p .size);
+              ∙ ap (λ (t : List ℕ). t ++ answered (step m call .machine) (n + 1) (past s k)) (sym (g .grown .holds f));
+          room = omega (arith, g .few, long, p .room, rest-length s (k + 1));
+          size = omega (arith, p .size, g .grown .size);
           few = omega (arith, p .few, rest-length s (k + 1));
         }

@@ -4,5 +4,4 @@ pub mod Lines
 pub mod Calls
 pub mod Output
 pub mod Script
-pub mod Grown
 pub mod Examples

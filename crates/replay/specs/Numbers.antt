@@ -1,8 +1,8 @@
--- Numbers: those of a script, whose digits and value are those of a table's values, and those of the output.
-use Prim.Native.Nat.{ℕ, zero, suc, _+_, _/_, _%_}
-use mathlib.Core.List.{List, [], _∷_, _++_}
+-- Numbers of a script, whose digits and value are those of a table's values.
+use Prim.Native.Nat.{ℕ}
+use mathlib.Core.List.{List}
 use mathlib.Core.Bool.{Bool, cond, not, _&&_}
-use lib.Dec.{leb, ltb}
+use lib.Dec.{leb}
 use lib.ListN.{length, drop}
 use Rattle.reader.specs.Value.{allDigits, leadingZero, decimal}
 use Rattle.replay.specs.Words.{beginsWith}
@@ -21,12 +21,3 @@ numberOf f = cond (isNumber f) (Read (decimal f)) Broken
 -- the number of a line that is a word with its space, and a number: as "CORES m"
 unfoldable pub numberAfter : List ℕ → List ℕ → Number
 numberAfter w l = cond (beginsWith w l) (numberOf (drop (length w) l)) Broken
-
--- n in base ten, where k + 1 digits are enough: its last digit, and before it those of the tenth part, if that is not 0
-unfoldable pub digitsOf : (k : ℕ) → ℕ → List ℕ
-digitsOf zero n = (48 + n % 10) ∷ []
-digitsOf (suc k) n = cond (ltb n 10) ((48 + n) ∷ []) (digitsOf k (n / 10) ++ (48 + n % 10) ∷ [])
-
--- a number of the output, which has 32 bits
-unfoldable pub decimalText : ℕ → List ℕ
-decimalText n = digitsOf 9 n

@@ -1,6 +1,9 @@
 -- What is printed for a call (docs/HANDBOOK.md, "Replaying calls"): "Output, one line per call, each ended by byte 10".
-use Prim.Native.Nat.{ℕ}
+use Prim.Native.Nat.{ℕ, _≤_}
 use mathlib.Core.List.{List, [], _∷_, _++_}
+use lib.ListN.{length}
+use Rattle.text.specs.Number.{decimalText}
+use Rattle.text.specs.Output.{Grown}
 use Rattle.reader.specs.Lines.{lineEnd, space}
 use Rattle.tasks.specs.declared.outcome.Outcome.{Outcome}
 use Rattle.tasks.specs.declared.outcome.Outcome.the-variants.{Done, Refused}
@@ -10,7 +13,6 @@ use Rattle.machine.specs.declared.answer.Answer.{Answer}
 use Rattle.machine.specs.declared.answer.Report.{Report}
 use Rattle.machine.specs.Mask.{mask}
 use Rattle.replay.specs.Words.{doneWord, refusedWord, badLineWord}
-use Rattle.replay.specs.Numbers.{decimalText}
 
 -- "`REFUSED n` for a refused call", table, m or script
 unfoldable pub refusedLine : ℕ → List ℕ
@@ -41,3 +43,8 @@ outcomeLine (Refused number place) call r = refusedLine number
 -- the line of a call and its answer
 unfoldable pub answerLine : Call → Answer → List ℕ
 answerLine call a = outcomeLine (a .outcome) call (a .report)
+
+-- a line was put after the first `used` bytes of an array, and has at most so many bytes
+pub record Line (most : ℕ) (before : List ℕ) (used : ℕ) (text after : List ℕ) (r : ℕ) : Type 0 where
+  pub grown : Grown before used text after r
+  pub few : length text ≤ most

@@ -10,33 +10,38 @@ beginsWith [] s = true
 beginsWith (b ∷ w) [] = false
 beginsWith (b ∷ w) (x ∷ s) = eqb x b && beginsWith w s
 
--- "CORES", "RELEASE", "FINISH" and "JOIN", each with its space
+-- "CORES" with its space, before m
 abbrev pub coresWord : List ℕ
 coresWord = 67 ∷ 79 ∷ 82 ∷ 69 ∷ 83 ∷ 32 ∷ []
 
+-- "RELEASE" with its space, before i
 abbrev pub releaseWord : List ℕ
 releaseWord = 82 ∷ 69 ∷ 76 ∷ 69 ∷ 65 ∷ 83 ∷ 69 ∷ 32 ∷ []
 
+-- "FINISH" with its space, before i
 abbrev pub finishWord : List ℕ
 finishWord = 70 ∷ 73 ∷ 78 ∷ 73 ∷ 83 ∷ 72 ∷ 32 ∷ []
 
+-- "JOIN" with its space, before T C D
 abbrev pub joinWord : List ℕ
 joinWord = 74 ∷ 79 ∷ 73 ∷ 78 ∷ 32 ∷ []
 
--- "SLOT" and "CALLS", each a line of its own
+-- "SLOT", a line of its own
 abbrev pub slotWord : List ℕ
 slotWord = 83 ∷ 76 ∷ 79 ∷ 84 ∷ []
 
+-- "CALLS", a line of its own
 abbrev pub callsWord : List ℕ
 callsWord = 67 ∷ 65 ∷ 76 ∷ 76 ∷ 83 ∷ []
 
--- "DONE"
+-- "DONE", a line of its own
 abbrev pub doneWord : List ℕ
 doneWord = 68 ∷ 79 ∷ 78 ∷ 69 ∷ []
 
--- "REFUSED" and "BAD LINE", each with its space
+-- "REFUSED" with its space, before n
 abbrev pub refusedWord : List ℕ
 refusedWord = 82 ∷ 69 ∷ 70 ∷ 85 ∷ 83 ∷ 69 ∷ 68 ∷ 32 ∷ []
 
+-- "BAD LINE" with its space, before n
 abbrev pub badLineWord : List ℕ
 badLineWord = 66 ∷ 65 ∷ 68 ∷ 32 ∷ 76 ∷ 73 ∷ 78 ∷ 69 ∷ 32 ∷ []

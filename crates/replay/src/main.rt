@@ -17,7 +17,7 @@ mod words;
 ghost use Prim.Native.Nat.{_≤_};
 ghost use lib.ListN.{length};
 ghost use Rattle.replay.specs.Lines.{lines, unended};
-ghost use Rattle.replay.specs.Grown.{Holds};
+ghost use Rattle.text.specs.Output.{Holds};
 ghost use Rattle.replay.specs.Script.{answers, printedFor, printed};
 
 // The most bytes that a script has.
@@ -30,11 +30,10 @@ const INPUT_ROOM: usize = 65_537;
 const OUTPUT_ROOM: usize = 589_856;
 
 // Puts the answers to the calls of a text, the first of which is on the line `first` of the script.
-fn play(text: &[u8], started: Machine, first: usize, output: &mut [u8]) -> usize
+fn play(text: &[u8], mut machine: Machine, first: usize, output: &mut [u8]) -> usize
     requires { ⌜ (length (now text) ≤ 65536) × (first ≤ 65539) × (589856 ≤ length (now output)) ⌝ }
-    ensures { λ r. ⌜ Holds (answers started first (lines (now (text .entry))) (unended (now (text .entry)))) (now (output .exit)) r ⌝ }
+    ensures { λ r. ⌜ Holds (answers machine first (lines (now (text .entry))) (unended (now (text .entry)))) (now (output .exit)) r ⌝ }
 {
-    let mut machine = started;
     let mut rest = text;
     let mut line = first;
     let mut used: usize = 0;
@@ -99,10 +98,15 @@ fn replay(script: &[u8], output: &mut [u8]) -> usize
     }
 }
 
-fn main() {
-    let mut space = [0u8; INPUT_ROOM];
-    let mut output = [0u8; OUTPUT_ROOM];
-    let n = io::read_full(STDIN_FILENO, &mut space);
-    let used = replay(&space[..n], &mut output);
+// Reads a script into one array and writes what is printed for it from the other.
+fn print(space: [u8; INPUT_ROOM], room: [u8; OUTPUT_ROOM]) {
+    let mut script = space;
+    let mut output = room;
+    let n = io::read_full(STDIN_FILENO, &mut script);
+    let used = replay(&script[..n], &mut output);
     io::write_all(STDOUT_FILENO, &output[..used]);
+}
+
+fn main() {
+    print([0; INPUT_ROOM], [0; OUTPUT_ROOM]);
 }

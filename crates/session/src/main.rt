@@ -1,29 +1,59 @@
 // Plays case j of document 01 for six slots, then case k for five, and prints a line for each slot.
 use libc::STDOUT_FILENO;
-use machine::answer::Answer;
+use machine::answer::Report;
 use machine::answer::mask;
 use machine::machine::Machine;
 use tasks::table::Table;
 use tasks::task::Task;
+use text::output::put_number;
+ghost use Prim.Native.Nat.{_+_, _≤_};
+ghost use mathlib.Core.Path.{_≡_};
+ghost use mathlib.Core.List.{List, _++_};
+ghost use lib.ListN.{length, replicate};
+ghost use Rattle.text.specs.Output.{Grown, Holds};
+ghost use Rattle.machine.specs.Play.{play as log};
+ghost use Rattle.machine.specs.Cases.{task, releases};
+ghost use Rattle.machine.specs.declared.call.Call.{Call};
+ghost use Rattle.machine.specs.declared.call.Call.the-variants.{Slot};
+ghost use Rattle.session.specs.Printed.{slotLine, slotLinesFrom, caseJ, caseK, printed};
 
-fn print_field(number: u64, end: &[u8]) {
-    io::print_decimal(STDOUT_FILENO, number);
-    io::write_all(STDOUT_FILENO, end);
-}
+// Eleven lines of eight bytes.
+const OUTPUT_ROOM: usize = 88;
 
-// A slot's number and the tasks that ran, finished and were late.
-fn print_slot(number: u64, answer: Answer) {
-    let report = answer.report;
+// Puts a slot's number and the tasks that ran, finished and were late.
+fn put_slot(output: &mut [u8], used: usize, number: u64, report: Report) -> usize
+    ensures { λ r. ⌜ Grown (now (output .entry)) used (slotLine number report) (now (output .exit)) r ⌝ }
+{
     let ran = report.ran;
     let finished = report.finished;
     let late = report.late;
-    print_field(number, b" ");
-    print_field(mask(ran), b" ");
-    print_field(mask(finished), b" ");
-    print_field(mask(late), b"\n");
+    let a = put_number(output, used, number, b' ');
+    let b = put_number(output, a, mask(ran), b' ');
+    let c = put_number(output, b, mask(finished), b' ');
+    put_number(output, c, mask(late), b'\n')
 }
 
-fn task(period: u32, budget: u32, deadline: u32) -> Task {
+// Puts a line for each of the next slots of a machine.
+fn play(output: &mut [u8], used: usize, mut machine: Machine, slots: u64) -> usize
+    requires { ⌜ used ≤ length (now output) + 1 ⌝ }
+    ensures { λ r. ⌜ Grown (now (output .entry)) used (slotLinesFrom 1 (log machine (replicate slots Slot))) (now (output .exit)) r ⌝ }
+{
+    let mut at = used;
+    let mut number: u64 = 0;
+    while number < slots {
+        number += 1;
+        let answer = machine.slot();
+        let report = answer.report;
+        at = put_slot(output, at, number, report);
+        machine = answer.machine;
+    }
+    at
+}
+
+// The task of three numbers.
+fn task(period: u32, budget: u32, deadline: u32) -> Task
+    ensures { λ r. ⌜ r ≡ task period budget deadline ⌝ }
+{
     Task {
         period,
         budget,
@@ -31,31 +61,23 @@ fn task(period: u32, budget: u32, deadline: u32) -> Task {
     }
 }
 
-// The machine after the release of its first `count` tasks.
-fn released(machine: Machine, count: u32) -> Machine {
-    let mut after = machine;
+// The machine after the release of its first `count` tasks, which print nothing.
+fn released(mut machine: Machine, count: u32) -> Machine
+    ensures { λ r. ⌜ ((calls : List Call) → slotLinesFrom 1 (log machine (releases count ++ calls)) ≡ slotLinesFrom 1 (log r calls)) ⌝ }
+{
     let mut number: u32 = 0;
     while number < count {
         number += 1;
-        let answer = after.release(number);
-        after = answer.machine;
+        let answer = machine.release(number);
+        machine = answer.machine;
     }
-    after
-}
-
-fn play(machine: Machine, slots: u64) {
-    let mut after = machine;
-    let mut number: u64 = 0;
-    while number < slots {
-        number += 1;
-        let answer = after.slot();
-        print_slot(number, answer);
-        after = answer.machine;
-    }
+    machine
 }
 
 // Tasks 6, 2, 3; 6, 2, 3; 6, 5, 6 on 2 cores.
-fn case_j() -> Machine {
+fn case_j() -> Machine
+    ensures { λ r. ⌜ slotLinesFrom 1 caseJ ≡ slotLinesFrom 1 (log r (replicate 6 Slot)) ⌝ }
+{
     let mut table = Table::empty();
     table.tasks[0] = task(6, 2, 3);
     table.tasks[1] = task(6, 2, 3);
@@ -67,7 +89,9 @@ fn case_j() -> Machine {
 }
 
 // Two tasks 5, 5, 5 on 1 core.
-fn case_k() -> Machine {
+fn case_k() -> Machine
+    ensures { λ r. ⌜ slotLinesFrom 1 caseK ≡ slotLinesFrom 1 (log r (replicate 5 Slot)) ⌝ }
+{
     let mut table = Table::empty();
     table.tasks[0] = task(5, 5, 5);
     table.tasks[1] = task(5, 5, 5);
@@ -77,7 +101,17 @@ fn case_k() -> Machine {
     released(machine, 2)
 }
 
+// Puts what is printed at the start of the output: how many bytes it is.
+fn sessions(output: &mut [u8]) -> usize
+    requires { ⌜ 88 ≤ length (now output) ⌝ }
+    ensures { λ r. ⌜ Holds printed (now (output .exit)) r ⌝ }
+{
+    let used = play(output, 0, case_j(), 6);
+    play(output, used, case_k(), 5)
+}
+
 fn main() {
-    play(case_j(), 6);
-    play(case_k(), 5);
+    let mut output = [0u8; OUTPUT_ROOM];
+    let used = sessions(&mut output);
+    io::write_all(STDOUT_FILENO, &output[..used]);
 }

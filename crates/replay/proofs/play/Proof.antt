@@ -10,16 +10,16 @@ use Rattle.replay.specs.declared.calls.CallLine.the-variants.{Read}
 use Rattle.replay.specs.Lines.{lines, unended}
 use Rattle.replay.specs.Calls.{callOf}
 use Rattle.replay.specs.Script.{answers}
-use Rattle.replay.proofs.Playing.{Playing, play-none, play-all, not-ended, no-call, room-for, shorter, play-more}
+use Rattle.replay.proofs.Playing.{Playing, play-none, play-all, not-ended, no-call, shorter, play-more}
 use Rattle.replay.proofs.play.Statement.{statement}
 use Rattle.replay.proofs.play.Tie as tie
 
 abbrev Inv-loop : tie.InvT-loop
-Inv-loop text first output₀ machine₀ rest₀ line₀ used₀ output machine rest line used =
+Inv-loop text machine₀ first output₀ rest₀ line₀ used₀ machine output rest line used =
     Playing (answers machine₀ first (lines text) (unended text)) output used machine line rest × (length output ≡ length output₀)
 
 abbrev μ-loop : tie.MeasureT-loop
-μ-loop text first output₀ machine₀ rest₀ line₀ used₀ output machine rest line used = length rest
+μ-loop text machine₀ first output₀ rest₀ line₀ used₀ machine output rest line used = length rest
 
 loop-holds : tie.Need-loop-holds Inv-loop μ-loop
 loop-holds c = let h = c .before .before .pre in (play-none _ _ _ _ (h .0) (h .1) (h .2), refl)
@@ -28,9 +28,7 @@ find-requires : tie.Need-find-requires Inv-loop μ-loop
 find-requires c κs = search needs
 
 put-bad-line-requires : tie.Need-put-bad-line-requires Inv-loop μ-loop
-put-bad-line-requires c κs =
-    let p = c .before .before .before .before .loop .inv .0 in
-    (omega (arith, p .room, p .size), omega (arith, p .few))
+put-bad-line-requires c κs = search needs
 
 same-length : tie.Need-same-length Inv-loop μ-loop
 same-length c = search needs
@@ -67,9 +65,7 @@ call-is :
 call-is c = sym (c .before .before .call-line .ensures) ∙ c .call .given .1
 
 put-bad-line-requires-2 : tie.Need-put-bad-line-requires-2 Inv-loop μ-loop
-put-bad-line-requires-2 c κs =
-    let p = at-line (c .before .before .before .before .before) .loop .inv .0 in
-    (omega (arith, p .room, p .size), omega (arith, p .few))
+put-bad-line-requires-2 c κs = search needs
 
 same-length-2 : tie.Need-same-length-2 Inv-loop μ-loop
 same-length-2 c = search needs
@@ -87,10 +83,7 @@ step-requires : tie.Need-step-requires Inv-loop μ-loop
 step-requires c κs = search needs
 
 put-answer-requires : tie.Need-put-answer-requires Inv-loop μ-loop
-put-answer-requires c κs =
-    let k = c .before .before .before in
-    let e = line-of k in
-    room-for _ _ _ _ _ _ (at-line e .loop .inv .0) _ (e .before .find .ensures) (e .if1 .left) _ (call-is k)
+put-answer-requires c κs = search needs
 
 -- from the place after the call's answer to the line
 abbrev answered-at : tie.After-machine Inv-loop μ-loop → tie.After-call Inv-loop μ-loop
@@ -132,7 +125,7 @@ loop-again c =
     let z : length (a .put-answer .last .0) ≡ length (l .loop .output) = search needs in (
       rw (t .step .ensures)
           (play-more _ _ _ _ _ _ (l .loop .inv .0) _ (e .before .find .ensures) (e .if1 .left) _ (call-is k) _ _
-          (rw (t .step .ensures) at (a .put-answer .ensures)) z),
+          (rw (t .step .ensures) at (a .put-answer .ensures))),
       z ∙ l .loop .inv .1,
     )
 

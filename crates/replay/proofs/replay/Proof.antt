@@ -1,5 +1,5 @@
 -- `replay` meets its contract: by the script's length, its first line, and the line of its calls.
-use Prim.Native.Nat.{ℕ, _+_, _-_, _≤_, _<_}
+use Prim.Native.Nat.{ℕ, _+_, _≤_, _<_}
 use native.Mathlib.Nat.{le-of-lt}
 use native.Mathlib.Omega.{arith}
 use mathlib.Core.Path.{_≡_, sym, ap, _∙_}
@@ -13,8 +13,8 @@ use Rattle.reader.proofs.NamesLine.{past}
 use Rattle.reader.proofs.ValueLine.{rest-length}
 use Rattle.replay.specs.declared.calls.CallsStart.{CallsStart}
 use Rattle.replay.specs.Script.{printedAfterCores, printed}
-use Rattle.replay.proofs.CallLaws.{Within, found-within, missing-few}
-use Rattle.replay.proofs.Growing.{grown-all}
+use Rattle.replay.proofs.CallLaws.{Within, found-within}
+use Rattle.replay.proofs.OutputLaws.{line-all}
 use Rattle.replay.proofs.ScriptLaws.{first-unended, first-broken, first-read}
 use Rattle.replay.proofs.replay.Statement.{statement}
 use Rattle.replay.proofs.replay.Tie as tie
@@ -59,6 +59,10 @@ found c = found-within _ _ _ _ (sym (c .before .before .find-calls .ensures) ∙
 text-few : (c : tie.Else2) → length (text c) ≤ 65536
 text-few c = omega (arith, script-few (c .before .before), rest-length (script c) (c .before .find .result + 1))
 
+-- the output's room
+room : (c : tie.Else2) → 589856 ≤ length (c .before .before .before .before .before .args .output .now)
+room c = c .before .before .before .before .before .pre
+
 put-refused-requires : tie.Need-put-refused-requires
 put-refused-requires c κs = search needs
 
@@ -71,7 +75,7 @@ returns c =
     let p = c .before .before in
     let t = p .before .before in
     let h : 65536 < length (t .before .before .before .args .script .now) = omega (arith, t .if1 .taken) in
-    rw (lt-ltb _ _ h) (grown-all _ _ _ _ (p .put-refused .ensures))
+    rw (lt-ltb _ _ h) (line-all _ _ _ _ (t .before .before .before .pre) (p .put-refused .ensures))
 
 find-requires : tie.Need-find-requires
 find-requires c κs = search needs
@@ -86,7 +90,8 @@ returns-2 : tie.Need-returns-2
 returns-2 c =
     let p = c .before .before in
     let t = p .before .before in
-    rw (first-unended _ (script-few (t .before .before)) _ (t .before .find .ensures) (t .if2 .taken)) (grown-all _ _ _ _ (p .put-bad-line .ensures))
+    rw (first-unended _ (script-few (t .before .before)) _ (t .before .find .ensures) (t .if2 .taken))
+    (line-all _ _ _ _ (t .before .before .before .before .before .pre) (p .put-bad-line .ensures))
 
 slice-aggregate-numbered-line : tie.Need-slice-aggregate-numbered-line
 slice-aggregate-numbered-line c = sym (length-take-le _ _ (le-of-lt (c .before .if2 .left)))
@@ -116,7 +121,7 @@ returns-3 c =
     let n = t .before .before in
     let e = n .before .before .before in
     rw (first-broken _ (script-few (e .before .before)) _ (e .before .find .ensures) (e .if2 .left) (sym (n .numbered-line .ensures) ∙ t .enum-told .given .1))
-    (grown-all _ _ _ _ (p .put-bad-line2 .ensures))
+    (line-all _ _ _ _ (room e) (p .put-bad-line2 .ensures))
 
 add-text : tie.Need-add-text
 add-text c = search needs
@@ -137,12 +142,7 @@ enum-known-line : tie.Need-enum-known-line
 enum-known-line c = search needs
 
 put-bad-line-requires-3 : tie.Need-put-bad-line-requires-3
-put-bad-line-requires-3 c κs =
-    let l = c .before .before in
-    let f = l .before .before in
-    let e = line-of (cores-of f) in
-    let m = missing-few _ _ (sym (f .find-calls .ensures) ∙ l .line .given .1) in
-    (omega arith, omega (arith, text-few e))
+put-bad-line-requires-3 c κs = search needs
 
 enum-known-table : tie.Need-enum-known-table
 enum-known-table c = search needs
@@ -175,7 +175,7 @@ unfolding printedAfterCores
 returns-4 c =
     let p = c .before .before in
     let l = p .before .before .before in
-    rw (printed-is (l .before .before) _ (l .line .given .1)) (grown-all _ _ _ _ (p .put-bad-line3 .ensures))
+    rw (printed-is (l .before .before) _ (l .line .given .1)) (line-all _ _ _ _ (room (line-of (cores-of (l .before .before)))) (p .put-bad-line3 .ensures))
 
 same-length-5 : tie.Need-same-length-5
 same-length-5 c = search needs

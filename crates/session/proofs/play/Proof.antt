@@ -1,18 +1,19 @@
--- `play` is safe and ends: its counter stays within its limit.
-use Prim.Native.Nat.{_-_, _≤_}
+-- `play` meets its contract. The invariant: the array has grown by the lines of the slots so far.
+use Prim.Native.Nat.{_-_}
 use native.Mathlib.Omega.{arith}
 use borrow.Author.Needs.{needs}
+use Rattle.session.proofs.Playing.{Playing, play-none, play-more, play-all}
 use Rattle.session.proofs.play.Statement.{statement}
 use Rattle.session.proofs.play.Tie as tie
 
 abbrev Inv-loop : tie.InvT-loop
-Inv-loop slots after₀ number₀ after number = number ≤ slots
+Inv-loop output₀ used machine₀ slots at₀ number₀ output machine at number = Playing output₀ used machine₀ slots output at machine number
 
 abbrev μ-loop : tie.MeasureT-loop
-μ-loop slots after₀ number₀ after number = slots - number
+μ-loop output₀ used machine₀ slots at₀ number₀ output machine at number = slots - number
 
 loop-holds : tie.Need-loop-holds Inv-loop μ-loop
-loop-holds c = omega arith
+loop-holds c = play-none _ _ _ _ (c .before .pre)
 
 add-number : tie.Need-add-number Inv-loop μ-loop
 add-number c = omega arith
@@ -20,17 +21,25 @@ add-number c = omega arith
 slot-requires : tie.Need-slot-requires Inv-loop μ-loop
 slot-requires c κs = search needs
 
-print-slot-requires : tie.Need-print-slot-requires Inv-loop μ-loop
-print-slot-requires c κs = search needs
+put-slot-requires : tie.Need-put-slot-requires Inv-loop μ-loop
+put-slot-requires c κs = search needs
 
 loop-less : tie.Need-loop-less Inv-loop μ-loop
 loop-less c = omega arith
 
 loop-again : tie.Need-loop-again Inv-loop μ-loop
-loop-again c = omega arith
+loop-again c =
+    let p = c .before .before .before in
+    let s = p .before .before .before in
+    let t = s .before in
+    rw (s .slot .ensures)
+    (play-more _ _ _ _ _ _ _ _ (t .before .loop .inv) (t .loop-test .taken) _ _ (rw (s .slot .ensures) at (p .put-slot .ensures)))
+
+same-length : tie.Need-same-length Inv-loop μ-loop
+same-length c = c .before .loop .inv .grown .size
 
 returns : tie.Need-returns Inv-loop μ-loop
-returns c = search needs
+returns c = play-all _ _ _ _ _ _ _ _ (c .before .loop .inv) (c .loop-test .left)
 
 pub play-spec : {M : Type 1} → statement M
 play-spec =
@@ -41,7 +50,8 @@ play-spec =
     loop-holds
     add-number
     slot-requires
-    print-slot-requires
+    put-slot-requires
     loop-less
     loop-again
+    same-length
     returns)

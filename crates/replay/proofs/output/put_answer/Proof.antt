@@ -1,7 +1,7 @@
 -- `put_answer` meets its contract: by the outcome, and then by the call.
 use borrow.Author.Needs.{needs}
 use Rattle.replay.specs.Output.{acceptedLine, outcomeLine, answerLine}
-use Rattle.replay.proofs.OutputLaws.{done-line}
+use Rattle.replay.proofs.OutputLaws.{done-line, done-put, line-longer}
 use Rattle.replay.proofs.output.put_answer.Statement.{statement}
 use Rattle.replay.proofs.output.put_answer.Tie as tie
 
@@ -18,7 +18,7 @@ returns : tie.Need-returns
 unfolding answerLine outcomeLine
 returns c =
     let p = c .before .before in
-    rw (p .before .before .before .outcome .given .1) (p .put-refused .ensures)
+    rw (p .before .before .before .outcome .given .1) (line-longer _ _ _ _ _ (p .put-refused .ensures))
 
 enum-told : tie.Need-enum-told
 enum-told c = search needs
@@ -40,7 +40,7 @@ unfolding answerLine outcomeLine acceptedLine
 returns-2 c =
     let p = c .before .before in
     let m = p .before .before .before in
-    rw (m .before .enum-told .given .1, done-line _ _ (m .match2 .keys2)) (p .put .ensures)
+    rw (m .before .enum-told .given .1, done-line _ _ (m .match2 .keys2)) (done-put _ _ _ _ (p .put .ensures))
 
 put-report-requires : tie.Need-put-report-requires
 put-report-requires c κs = search needs

@@ -1,7 +1,9 @@
 -- `put_bad_line` meets its contract: the word, and the number with its byte 10.
+use native.Mathlib.Omega.{arith}
 use borrow.Author.Needs.{needs}
+use Rattle.replay.specs.Words.{badLineWord}
 use Rattle.replay.specs.Output.{badLine}
-use Rattle.replay.proofs.Growing.{grown-more}
+use Rattle.replay.proofs.OutputLaws.{numbered-line}
 use Rattle.replay.proofs.output.put_bad_line.Statement.{statement}
 use Rattle.replay.proofs.output.put_bad_line.Tie as tie
 
@@ -10,9 +12,6 @@ slice-aggregate-put c = search needs
 
 put-requires : tie.Need-put-requires
 put-requires c κs = search needs
-
-cast-put-number : tie.Need-cast-put-number
-cast-put-number c = search needs
 
 put-number-requires : tie.Need-put-number-requires
 put-number-requires c κs = search needs
@@ -25,7 +24,7 @@ unfolding badLine
 returns c =
     let n = c .before .before in
     let p = n .before .before .before .before in
-    grown-more _ _ _ _ _ _ _ _ (p .put .ensures) (n .put-number .ensures)
+    numbered-line badLineWord (omega arith) _ _ _ _ _ _ _ (search needs) (p .put .ensures) (n .put-number .ensures)
 
 pub put-bad-line-spec : {M : Type 1} → statement M
 put-bad-line-spec =
@@ -33,7 +32,6 @@ put-bad-line-spec =
     (tie.spec
     slice-aggregate-put
     put-requires
-    cast-put-number
     put-number-requires
     same-length
     returns)

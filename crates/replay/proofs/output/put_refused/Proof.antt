@@ -1,7 +1,9 @@
 -- `put_refused` meets its contract: the word, and the number with its byte 10.
+use native.Mathlib.Omega.{arith}
 use borrow.Author.Needs.{needs}
+use Rattle.replay.specs.Words.{refusedWord}
 use Rattle.replay.specs.Output.{refusedLine}
-use Rattle.replay.proofs.Growing.{grown-more}
+use Rattle.replay.proofs.OutputLaws.{numbered-line}
 use Rattle.replay.proofs.output.put_refused.Statement.{statement}
 use Rattle.replay.proofs.output.put_refused.Tie as tie
 
@@ -22,8 +24,14 @@ unfolding refusedLine
 returns c =
     let n = c .before .before in
     let p = n .before .before .before .before in
-    grown-more _ _ _ _ _ _ _ _ (p .put .ensures) (n .put-number .ensures)
+    numbered-line refusedWord (omega arith) _ _ _ _ _ _ _ (search needs) (p .put .ensures) (n .put-number .ensures)
 
 pub put-refused-spec : {M : Type 1} → statement M
 put-refused-spec =
-    tie.close (tie.spec slice-aggregate-put put-requires put-number-requires same-length returns)
+    tie.close
+    (tie.spec
+    slice-aggregate-put
+    put-requires
+    put-number-requires
+    same-length
+    returns)

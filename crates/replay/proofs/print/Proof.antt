@@ -1,10 +1,10 @@
--- `main` is safe and ends: what it writes lies within the output.
+-- `print` is safe and ends: what it writes lies within the output.
 use mathlib.Core.Path.{sym}
 use borrow.Author.Needs.{needs}
 use lib.Seq.{length-take-le}
-use Rattle.replay.proofs.Growing.{held-within}
-use Rattle.replay.proofs.main.Statement.{statement}
-use Rattle.replay.proofs.main.Tie as tie
+use Rattle.text.proofs.Growing.{held-within}
+use Rattle.replay.proofs.print.Statement.{statement}
+use Rattle.replay.proofs.print.Tie as tie
 
 slice-aggregate-read-full : tie.Need-slice-aggregate-read-full
 slice-aggregate-read-full c = search needs
@@ -12,8 +12,8 @@ slice-aggregate-read-full c = search needs
 read-full-requires : tie.Need-read-full-requires
 read-full-requires c κs = search needs
 
-array-share-prefix-space : tie.Need-array-share-prefix-space
-array-share-prefix-space c = search needs
+array-share-prefix-script : tie.Need-array-share-prefix-script
+array-share-prefix-script c = search needs
 
 slice-aggregate-replay : tie.Need-slice-aggregate-replay
 slice-aggregate-replay c = search needs
@@ -36,13 +36,13 @@ write-all-requires c κs = search needs
 returns : tie.Need-returns
 returns c = search needs
 
-pub main-spec : {M : Type 1} → statement M
-main-spec =
+pub print-spec : {M : Type 1} → statement M
+print-spec =
     tie.close
     (tie.spec
     slice-aggregate-read-full
     read-full-requires
-    array-share-prefix-space
+    array-share-prefix-script
     slice-aggregate-replay
     slice-aggregate-replay-2
     replay-requires

@@ -1,0 +1,79 @@
+-- The lines of a log, one call at a time. Others cite `Released` with `released-none` and `released-more` (the loop of releases),
+-- `session-lines` (a case), and `Playing` with `play-none`, `play-more` and `play-all` (the loop of slots).
+use Prim.Native.Nat.{ℕ, suc, _+_, _-_, _≤_, _<_}
+use native.Mathlib.Omega.{arith}
+use mathlib.Core.Path.{_≡_, refl, _∙_}
+use mathlib.Core.List.{List, [], _∷_, _++_, append-nil, append-assoc}
+use lib.ListN.{length, replicate}
+use Rattle.text.specs.Output.{Grown}
+use Rattle.text.proofs.Growing.{grown-none, grown-more}
+use Rattle.tasks.specs.declared.task.Task.{Task}
+use Rattle.tasks.specs.declared.table.Table.{Table}
+use Rattle.machine.specs.Calls.{start, step, release, slot}
+use Rattle.machine.specs.Play.{play}
+use Rattle.machine.specs.InTime.{isSlot}
+use Rattle.machine.specs.Cases.{tableOf, releases, session}
+use Rattle.machine.specs.declared.machine.Machine.{Machine}
+use Rattle.machine.specs.declared.answer.Answer.{Answer}
+use Rattle.machine.specs.declared.call.Call.{Call}
+use Rattle.machine.specs.declared.call.Call.the-variants.{Release, Slot}
+use Rattle.session.specs.Printed.{slotLine, slotLinesFrom}
+
+-- m is the machine after the releases of the tasks 1 to n of m₀: whatever calls follow, the lines are the same
+abbrev pub Released : Machine → ℕ → Machine → Type 0
+Released m₀ n m = (calls : List Call) → slotLinesFrom 1 (play m₀ (releases n ++ calls)) ≡ slotLinesFrom 1 (play m calls)
+
+pub released-none : (m : Machine) → Released m 0 m
+unfolding releases
+released-none m calls = refl
+
+pub released-more : (m₀ m : Machine) (n : ℕ) → Released m₀ n m → Released m₀ (suc n) (release m (suc n) .machine)
+unfolding releases play step isSlot slotLinesFrom
+released-more m₀ m n h calls = rw (append-assoc (releases n) (Release (suc n) ∷ []) calls) (h (Release (suc n) ∷ calls))
+
+-- the session of some tasks, from the machine after their releases
+pub session-lines :
+    (tasks : List Task) (cores slots : ℕ) (m : Machine) (a : Answer) (t : Table) → Released (a .machine) (length tasks) m → a ≡ start t cores
+    → t ≡ tableOf tasks → slotLinesFrom 1 (session tasks cores slots) ≡ slotLinesFrom 1 (play m (replicate slots Slot))
+unfolding session
+session-lines tasks cores slots m a t h e f =
+    let q : start (tableOf tasks) cores .machine ≡ a .machine = rw (e, f) in
+    rw q (h (replicate slots Slot))
+
+-- the lines of some slots of a machine, the first of which has the number n
+abbrev slotsFrom : ℕ → Machine → ℕ → List ℕ
+slotsFrom n m slots = slotLinesFrom n (play m (replicate slots Slot))
+
+-- after n slots of m₀: the array has grown by their lines, and those of the slots that are left are the rest
+pub record Playing (before : List ℕ) (used : ℕ) (m₀ : Machine) (slots : ℕ) (after : List ℕ) (at : ℕ) (m : Machine) (n : ℕ) : Type 0 where
+  pub put : List ℕ
+  pub grown : Grown before used put after at
+  pub whole : slotsFrom 1 m₀ slots ≡ put ++ slotsFrom (n + 1) m (slots - n)
+  pub within : n ≤ slots
+
+pub play-none : (a : List ℕ) (u : ℕ) (m : Machine) (slots : ℕ) → u ≤ length a + 1 → Playing a u m slots a u m 0
+play-none a u m slots h =
+    let e : slots - 0 ≡ slots = omega arith in
+    record { put = []; grown = grown-none a u h; whole = rw e refl; within = omega arith }
+
+module _ (a : List ℕ) (u : ℕ) (m₀ : Machine) (slots : ℕ) (b : List ℕ) (v : ℕ) (m : Machine) (n : ℕ) (p : Playing a u m₀ slots b v m n) where
+  pub play-more :
+      n < slots → (c : List ℕ) (w : ℕ) → Grown b v (slotLine (n + 1) (slot m .report)) c w
+      → Playing a u m₀ slots c w (slot m .machine) (n + 1)
+  unfolding play step isSlot slotLinesFrom
+  play-more l c w g =
+      let line = slotLine (n + 1) (slot m .report) in
+      let e : slots - n ≡ suc (slots - (n + 1)) = omega arith in
+      record {
+        put = p .put ++ line;
+        grown = grown-more a b (p .put) u v (p .grown) c line w g;
+        whole = p .whole ∙ rw (e, append-assoc (p .put) line (slotsFrom (n + 1 + 1) (slot m .machine) (slots - (n + 1)))) refl;
+        within = omega arith;
+      }
+
+  pub play-all : slots ≤ n → Grown a u (slotsFrom 1 m₀ slots) b v
+  unfolding play slotLinesFrom
+  play-all l =
+      let e : slots - n ≡ 0 = omega arith in
+      let z : slotsFrom 1 m₀ slots ≡ p .put = p .whole ∙ rw e (append-nil (p .put)) in
+      rw z (p .grown)

@@ -1,0 +1,49 @@
+-- `sessions` meets its contract: the lines of one case after those of the other, which have room.
+use Prim.Native.Nat.{ℕ, _≤_}
+use native.Mathlib.Nat.{le-trans}
+use mathlib.Core.Path.{_≡_}
+use mathlib.Core.List.{List, _++_}
+use borrow.Author.Needs.{needs}
+use lib.ListN.{length}
+use Rattle.text.specs.Output.{Grown, Holds}
+use Rattle.text.proofs.Growing.{grown-within, grown-more, grown-all}
+use Rattle.session.specs.Printed.{caseJ, caseK, slotLinesFrom, printed}
+use Rattle.session.proofs.DocumentHolds.{printed-few}
+use Rattle.session.proofs.sessions.Statement.{statement}
+use Rattle.session.proofs.sessions.Tie as tie
+
+-- the lines of both cases, from the start of an array that has room for them
+both :
+    (a b d s t : List ℕ) (v w : ℕ) → Grown a 0 s b v → Grown b v t d w → slotLinesFrom 1 caseJ ≡ s → slotLinesFrom 1 caseK ≡ t → 88 ≤ length a
+    → Holds printed d w
+unfolding printed
+both a b d s t v w p q e f h =
+    let z : printed ≡ s ++ t = rw (e, f) in
+    let l : length (s ++ t) ≤ length a = rw z at (le-trans printed-few h) in
+    rw z (grown-all a d (s ++ t) w (grown-more a b s 0 v p d t w q) l)
+
+case-j-requires : tie.Need-case-j-requires
+case-j-requires c κs = search needs
+
+play-requires : tie.Need-play-requires
+play-requires c κs = search needs
+
+case-k-requires : tie.Need-case-k-requires
+case-k-requires c κs = search needs
+
+play-requires-2 : tie.Need-play-requires-2
+play-requires-2 c κs = grown-within _ _ _ _ _ (c .before .before .before .before .play .ensures)
+
+same-length : tie.Need-same-length
+same-length c = search needs
+
+returns : tie.Need-returns
+returns c =
+    let k = c .before .before in
+    let j = k .before .before .before .before .before in
+    both _ _ _ _ _ _ _ (j .play .ensures) (k .play2 .ensures) (j .before .case-j .ensures) (k .before .case-k .ensures) (j .before .before .before .before .pre)
+
+pub sessions-spec : {M : Type 1} → statement M
+sessions-spec =
+    tie.close
+    (tie.spec case-j-requires play-requires case-k-requires play-requires-2 same-length returns)
