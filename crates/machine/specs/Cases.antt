@@ -29,16 +29,20 @@ pub data Case : Type 0 where
   verdictIs : List Task → (cores count : ℕ) → (admits : Bool) → Case
   sessionIs : List Task → (cores : ℕ) → List Line → Case
 
+-- a task by its three numbers, "T, C, D"
 unfoldable pub task : (period budget deadline : ℕ) → Task
 task period budget deadline = record { period = period; budget = budget; deadline = deadline }
 
+-- a table with these tasks added at its end, in order
 unfoldable pub tableWith : Table → List Task → Table
 tableWith t [] = t
 tableWith t (k ∷ tasks) = tableWith (withTask t k) tasks
 
+-- the table of these tasks
 unfoldable pub tableOf : List Task → Table
 tableOf tasks = tableWith emptyTable tasks
 
+-- what the accepted slots of a log report, a line for each
 unfoldable pub slotLines : List Entry → List Line
 slotLines [] = []
 slotLines (e ∷ log) =
@@ -46,6 +50,7 @@ slotLines (e ∷ log) =
     (record { ran = mask (e .report .ran); finished = mask (e .report .finished); late = mask (e .report .late) } ∷ slotLines log)
     (slotLines log)
 
+-- two lists have the same lines
 unfoldable pub sameLines : List Line → List Line → Bool
 sameLines [] [] = true
 sameLines [] (y ∷ t) = false
@@ -57,9 +62,11 @@ unfoldable pub releases : ℕ → List Call
 releases zero = []
 releases (suc n) = releases n ++ Release (suc n) ∷ []
 
+-- the log of a session: the tasks of a table "all released" on a fresh machine, then so many slots
 unfoldable pub session : List Task → (cores slots : ℕ) → List Entry
 session tasks cores slots = play (start (tableOf tasks) cores .machine) (releases (length tasks) ++ replicate slots Slot)
 
+-- whether a case holds
 unfoldable pub holds : Case → Bool
 holds (interferenceIs period budget window value) = eqb (interference period budget window) value
 holds (verdictIs tasks cores count admits) =
@@ -67,6 +74,7 @@ holds (verdictIs tasks cores count admits) =
     isDone (verdict .outcome) && eqb (verdict .count) count && Bool·beq (verdict .admits) admits
 holds (sessionIs tasks cores lines) = sameLines (slotLines (session tasks cores (length lines))) lines
 
+-- a line by its three numbers
 unfoldable pub line : (ran finished late : ℕ) → Line
 line ran finished late = record { ran = ran; finished = finished; late = late }
 
@@ -74,6 +82,7 @@ line ran finished late = record { ran = ran; finished = finished; late = late }
 unfoldable pub example : List Task
 example = task 4 1 4 ∷ task 6 2 5 ∷ task 10 6 8 ∷ []
 
+-- the cases a to k, in their order
 unfoldable pub cases : List Case
 cases =
     interferenceIs 4 1 8 2 ∷
@@ -91,6 +100,7 @@ cases =
     (line 1 0 0 ∷ line 1 0 0 ∷ line 1 0 0 ∷ line 1 0 0 ∷ line 1 1 2 ∷ []) ∷
     []
 
+-- every case of a list holds: "Proved together as entries of a single checked list"
 unfoldable pub allHold : List Case → Bool
 allHold [] = true
 allHold (c ∷ cs) = holds c && allHold cs

@@ -23,6 +23,7 @@ use Rattle.machine.specs.declared.call.Call.the-variants.{Release, Finis
 unfoldable pub answers : List Task → (cores : ℕ) → List Call → List Entry
 answers tasks cores calls = play (start (tableOf tasks) cores .machine) calls
 
+-- the refusal number of an outcome, if it is one, in front of others
 unfoldable pub refusalBefore : Outcome → List ℕ → List ℕ
 refusalBefore Done numbers = numbers
 refusalBefore (Refused number place) numbers = number ∷ numbers
@@ -37,6 +38,7 @@ unfoldable pub runnerCounts : List Entry → List ℕ
 runnerCounts [] = []
 runnerCounts (e ∷ log) = cond (acceptedSlot e) (e .report .runners ∷ runnerCounts log) (runnerCounts log)
 
+-- two lists have the same numbers
 unfoldable pub sameNumbers : List ℕ → List ℕ → Bool
 sameNumbers [] [] = true
 sameNumbers [] (y ∷ t) = false
@@ -72,6 +74,7 @@ ignored call number =
     ignoredIs example 2 (Release 1 ∷ Release 2 ∷ Slot ∷ []) call number (Release 3 ∷ replicate 6 Slot)
     (line 3 1 0 ∷ line 6 2 0 ∷ line 4 0 0 ∷ line 4 0 0 ∷ line 4 0 0 ∷ line 4 0 0 ∷ line 4 4 0 ∷ [])
 
+-- runs of the machine
 unfoldable pub examples : List Bool
 examples =
     -- 32 tasks on 16 cores: COUNT 12, admitted; on 11 cores the same COUNT, refused
@@ -130,20 +133,23 @@ slotOf ran finished =
       report = record { ran = ran ∷ []; finished = finished ∷ []; late = []; runners = bit ran };
     }
 
--- a slot in which task 1 stood idle, one in which it ran, and one in which it ran and finished
+-- a slot in which task 1 did not run
 unfoldable pub idle : Entry
 idle = slotOf false false
 
+-- a slot in which it ran and did not finish
 unfoldable pub ran : Entry
 ran = slotOf true false
 
+-- a slot in which it ran and finished
 unfoldable pub ranLast : Entry
 ranLast = slotOf true true
 
--- an accepted call that is no slot, and a refused call
+-- an accepted call that is no slot
 unfoldable pub accepted : Call → Entry
 accepted call = record { call = call; outcome = Done; report = noReport }
 
+-- a refused call
 unfoldable pub refused : Call → Entry
 refused call = record { call = call; outcome = Refused unsoundMachine 0; report = noReport }
 
@@ -151,6 +157,7 @@ refused call = record { call = call; outcome = Refused unsoundMachine 0; report 
 unfoldable pub closedIn : (budget deadline : ℕ) → List Entry → Bool
 closedIn budget deadline log = closedBySlot 1 (task 9 budget deadline) log
 
+-- logs made by hand, and what the claim of demand 3 says of them
 unfoldable pub claims : List Bool
 claims =
     -- by the second slot, and not by the third; a refused slot is not counted

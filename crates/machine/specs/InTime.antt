@@ -17,29 +17,33 @@ use Rattle.machine.specs.declared.call.Call.{Call}
 use Rattle.machine.specs.declared.answer.Answer.{Answer}
 use Rattle.machine.specs.declared.call.Call.the-variants.{Release, Finish, Slot, Join}
 
+-- the call is a slot
 unfoldable pub isSlot : Call → Bool
 isSlot (Release number) = false
 isSlot (Finish number) = false
 isSlot Slot = true
 isSlot (Join task) = false
 
+-- the call is a finish of the task of this number
 unfoldable pub isFinishOf : (number : ℕ) → Call → Bool
 isFinishOf number (Release other) = false
 isFinishOf number (Finish other) = eqb other number
 isFinishOf number Slot = false
 isFinishOf number (Join task) = false
 
--- "A call is accepted when it is not refused"
+-- an accepted slot: "A call is accepted when it is not refused"
 unfoldable pub acceptedSlot : Entry → Bool
 acceptedSlot e = isDone (e .outcome) && isSlot (e .call)
 
+-- "a finish of the task is accepted", by this entry
 unfoldable pub acceptedFinish : (number : ℕ) → Entry → Bool
 acceptedFinish number e = isDone (e .outcome) && isFinishOf number (e .call)
 
--- what a slot's answer says of a task
+-- a slot's answer says that the task ran
 unfoldable pub saysRan : (number : ℕ) → Entry → Bool
 saysRan number e = acceptedSlot e && getD (e .report .ran) (number - 1) false
 
+-- a slot's answer says that the task finished
 unfoldable pub saysFinished : (number : ℕ) → Entry → Bool
 saysFinished number e = acceptedSlot e && getD (e .report .finished) (number - 1) false
 

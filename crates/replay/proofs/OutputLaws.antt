@@ -22,19 +22,19 @@ use Rattle.machine.specs.declared.answer.Report.{Report}
 use Rattle.machine.specs.Mask.{mask}
 use Rattle.machine.proofs.Computing.{computing}
 use Rattle.replay.specs.Words.{doneWord}
-use Rattle.replay.specs.Output.{Line, reportLine, acceptedLine}
+use Rattle.replay.specs.Output.{Line, reportLine, acceptedLine, refusalRoom, answerRoom}
 
 -- what holds of a line of at most 32 bytes: it has at most 44, and room at the start of the output
-pub line-longer : (a b s : List ℕ) (u r : ℕ) → Line 32 a u s b r → Line 44 a u s b r
+pub line-longer : (a b s : List ℕ) (u r : ℕ) → Line refusalRoom a u s b r → Line answerRoom a u s b r
 line-longer a b s u r l = record { grown = l .grown; few = omega (arith, l .few) }
 
-pub line-all : (a b s : List ℕ) (r : ℕ) → 589856 ≤ length a → Line 32 a 0 s b r → Holds s b r
+pub line-all : (a b s : List ℕ) (r : ℕ) → 589856 ≤ length a → Line refusalRoom a 0 s b r → Holds s b r
 line-all a b s r h l = grown-all a b s r (l .grown) (omega (arith, l .few))
 
 -- a word, and a number with its byte 10
 pub numbered-line :
     (word : List ℕ) → length word ≤ 11 → (a b c : List ℕ) (n u v w : ℕ) → n < 2 ^ 64 → Put a u word b v → Put b v (decimalText n ++ lineEnd ∷ []) c w
-    → Line 32 a u (word ++ (decimalText n ++ lineEnd ∷ [])) c w
+    → Line refusalRoom a u (word ++ (decimalText n ++ lineEnd ∷ [])) c w
 numbered-line word l a b c n u v w h p q =
     record {
       grown = grown-more a b word u v (put-grown a b word u v p) c _ w (put-grown b c _ v w q);
@@ -49,7 +49,7 @@ done-line (Finish i) r h = refl
 done-line Slot r h = absurd (⊎-elim (λ e. omega (arith, e)) (λ h. ⊎-elim (λ e. omega (arith, e)) (λ e. omega (arith, e)) h) h)
 done-line (Join t) r h = refl
 
-pub done-put : (a b : List ℕ) (u r : ℕ) → Put a u (doneWord ++ lineEnd ∷ []) b r → Line 44 a u (doneWord ++ lineEnd ∷ []) b r
+pub done-put : (a b : List ℕ) (u r : ℕ) → Put a u (doneWord ++ lineEnd ∷ []) b r → Line answerRoom a u (doneWord ++ lineEnd ∷ []) b r
 done-put a b u r p = record { grown = put-grown a b _ u r p; few = omega arith }
 
 mask-below : (named : List Bool) → mask named < 2 ^ length named

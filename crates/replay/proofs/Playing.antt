@@ -20,7 +20,7 @@ use Rattle.machine.specs.declared.call.Call.{Call}
 use Rattle.replay.specs.declared.calls.CallLine.the-variants.{Read, Bad}
 use Rattle.replay.specs.Lines.{lines, unended}
 use Rattle.replay.specs.Calls.{callOf}
-use Rattle.replay.specs.Output.{Line, badLine, answerLine}
+use Rattle.replay.specs.Output.{Line, badLine, answerLine, refusalRoom, answerRoom}
 use Rattle.replay.specs.Script.{onCall, answers}
 use Rattle.replay.proofs.LineLaws.{lines-more, lines-none, unended-more, unended-all}
 use Rattle.replay.proofs.CallLaws.{call-long}
@@ -60,7 +60,7 @@ module _ (whole bytes : List ℕ) (used : ℕ) (m : Machine) (n : ℕ) (s : List
       record { holds = sym e; count = omega (arith, ap length e, length-take-le used bytes within) }
 
   -- a line that is no call, after which the array has grown by its line
-  module _ (after : List ℕ) (r : ℕ) (g : Line 32 bytes used (badLine n) after r) where
+  module _ (after : List ℕ) (r : ℕ) (g : Line refusalRoom bytes used (badLine n) after r) where
     stopped : answered m n s ≡ badLine n → Holds whole after r
     stopped e = rw (p .left, e) (grown-after bytes after (badLine n) used r (g .grown) (omega (arith, g .few, p .room, p .size)))
 
@@ -85,7 +85,7 @@ module _ (whole bytes : List ℕ) (used : ℕ) (m : Machine) (n : ℕ) (s : List
     shorter = omega (arith, rest-length s (k + 1))
 
     pub play-more :
-        (after : List ℕ) (r : ℕ) → Line 44 bytes used (answerLine call (step m call)) after r
+        (after : List ℕ) (r : ℕ) → Line answerRoom bytes used (answerLine call (step m call)) after r
         → Playing whole after r (step m call .machine) (n + 1) (past s k)
     unfolding answers onCall
     play-more after r g =

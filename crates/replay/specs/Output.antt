@@ -44,6 +44,14 @@ outcomeLine (Refused number place) call r = refusedLine number
 unfoldable pub answerLine : Call → Answer → List ℕ
 answerLine call a = outcomeLine (a .outcome) call (a .report)
 
+-- the most bytes of a line `REFUSED n` or `BAD LINE n`, and more
+abbrev pub refusalRoom : ℕ
+refusalRoom = 32
+
+-- the most bytes of the line of an answer: four numbers of ten digits, and a byte after each
+abbrev pub answerRoom : ℕ
+answerRoom = 44
+
 -- a line was put after the first `used` bytes of an array, and has at most so many bytes
 pub record Line (most : ℕ) (before : List ℕ) (used : ℕ) (text after : List ℕ) (r : ℕ) : Type 0 where
   pub grown : Grown before used text after r
