@@ -24,12 +24,14 @@ pub fn next_runner(ranks: &[u64]) -> usize
             continue 'candidates;
         }
         let mut rival = candidate + 1;
-        while rival < ranks.len() {
-            if waits(ranks[rival]) {
-                if precedes(ranks[rival], rival, ranks[candidate], candidate) {
-                    candidate = rival;
-                    continue 'candidates;
-                }
+        'rivals: while rival < ranks.len() {
+            if !waits(ranks[rival]) {
+                rival += 1;
+                continue 'rivals;
+            }
+            if precedes(ranks[rival], rival, ranks[candidate], candidate) {
+                candidate = rival;
+                continue 'candidates;
             }
             rival += 1;
         }
