@@ -1,5 +1,5 @@
 -- Precedence as one number for each job, equal ones by index, for the code's search: docs/DECISIONS.md, "Precedence as one number". That
--- a smaller rank is the precedence of document 01 is proved (`rank-precedes`, proofs/RankLaws.antt).
+-- this is the precedence of document 01, for open jobs whose left has 32 bits, is proved (`rank-precedes`, proofs/RankLaws.antt).
 use Prim.Native.Nat.{ℕ, _+_}
 use mathlib.Core.Bool.{Bool, cond, _&&_, _||_}
 use mathlib.Core.List.{List}
@@ -13,7 +13,7 @@ use Rattle.job.specs.declared.job.Job.{Job}
 abbrev pub later : ℕ
 later = 4_294_967_296
 
--- the rank of a task that does not wait: 2^33, more than that of any that waits
+-- the rank of a task that does not wait: 2^33, more than that of any open job whose left has 32 bits
 abbrev pub never : ℕ
 never = 8_589_934_592
 
@@ -21,15 +21,15 @@ never = 8_589_934_592
 unfoldable pub rank : Job → ℕ
 rank j = cond (j .«open») (cond (isUrgent j) (j .left) (later + j .left)) never
 
--- a task of this rank is open and not picked
+-- a task of this rank waits: closed and picked ones have the rank `never`
 unfoldable pub waits : ℕ → Bool
 waits r = ltb r never
 
--- the task of rank x at index i precedes the task of rank y at index j: the smaller rank first, "then lower number"
+-- the task of rank x at index i precedes the task of rank y at index j, both waiting: the smaller rank first, "then lower number"
 unfoldable pub rankPrecedes : (x i y j : ℕ) → Bool
 rankPrecedes x i y j = ltb x y || (eqb x y && ltb i j)
 
--- the tasks of a list of ranks
+-- the tasks of a list that has the rank of each: who waits and who precedes whom, by the ranks
 unfoldable pub ranked : List ℕ → Candidates
 ranked l =
     record {

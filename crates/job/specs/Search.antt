@@ -2,7 +2,8 @@
 use Prim.Native.Nat.{ℕ, zero, suc}
 use mathlib.Core.Bool.{Bool, true, cond, not, _&&_}
 
--- what a search goes by: how many tasks there are, which of them wait (open and not picked), and which precedes which, each by its index
+-- what a search goes by: how many tasks there are, closed and picked ones among them, which of them wait (are open and not picked), and which
+-- precedes which, each by its index
 pub record Candidates : Type 0 where
   pub count : ℕ
   pub waits : ℕ → Bool
@@ -22,6 +23,7 @@ unfoldable pub firstNext : Candidates → (i n : ℕ) → ℕ
 firstNext q i zero = 0
 firstNext q i (suc n) = cond (isNext q i) (suc i) (firstNext q (suc i) n)
 
--- "The search for the next runner ends at the first open task that no unpicked one precedes.": its number; 0 where no task waits
+-- "The search for the next runner ends at the first open task that no unpicked one precedes.": its number; 0 where there is none, which in a
+-- strict order is where no task waits
 unfoldable pub nextRunner : Candidates → ℕ
 nextRunner q = firstNext q 0 (q .count)

@@ -28,7 +28,7 @@ unfolding computing answers refusalBefore refusals runnerCounts sameNumbers runI
 examples-hold = refl
 
 pub claims-hold : allTrue claims ≡ true
-unfolding computing saysRan saysFinished slotCount upToSlot ranWhole acceptedFinish isFinishOf anyFinish closedBySlot slotOf idle ran ranLast accepted refused closedIn claims allTrue
+unfolding computing saysRan saysFinished slotCount upToSlot ranWhole acceptedFinish isFinishOf anyFinish closedBySlot tableAfter joinedBy slotOf idle ran ranLast accepted refused closedIn claims allTrue
 claims-hold = refl
 
 -- the log of case k, in whose last slot task 2 is late

@@ -36,7 +36,7 @@ startAfter Done t cores = done (record { table = t; cores = cores; jobs = replic
 startAfter (Refused number place) t cores =
     record { machine = zeroMachine; outcome = Refused number place; report = noReport }
 
--- "Judging or starting a given table"
+-- "Judging or starting a given table"; "The machine starts on refused tables too (admission is a separate verdict)."
 unfoldable pub start : Table → (cores : ℕ) → Answer
 start t cores = startAfter (checked t cores) t cores
 
@@ -68,7 +68,8 @@ unfoldable pub withJoined : Machine → Task → Machine
 withJoined m t =
     record { table = withTask (m .table) t; cores = m .cores; jobs = set (m .jobs) (m .table .count) freshJob }
 
--- a join, after the verdict on the longer table: "if the longer table is admitted on m cores"
+-- a join, after the verdict on the longer table: "if the longer table is admitted on m cores"; "A join whose verdict is a refusal ends there with
+-- that refusal."
 unfoldable pub joinAfter : Outcome → (admits : Bool) → Machine → Task → Answer
 joinAfter Done admits m t = cond admits (done (withJoined m t)) (refuse m notAdmitted)
 joinAfter (Refused number place) admits m t = record { machine = m; outcome = Refused number place; report = noReport }

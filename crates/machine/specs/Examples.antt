@@ -14,7 +14,7 @@ use Rattle.tasks.specs.Refusals.{unsoundMachine}
 use Rattle.machine.specs.Slot.{noReport}
 use Rattle.machine.specs.Calls.{start}
 use Rattle.machine.specs.Play.{Entry, play}
-use Rattle.machine.specs.InTime.{acceptedSlot, slotCount, closedBySlot}
+use Rattle.machine.specs.InTime.{acceptedSlot, slotCount, closedBySlot, tableAfter}
 use Rattle.machine.specs.Cases.{Line, verdictIs, sessionIs, task, tableOf, slotLines, sameLines, releases, holds, line, example}
 use Rattle.machine.specs.declared.call.Call.{Call}
 use Rattle.machine.specs.declared.call.Call.the-variants.{Release, Finish, Slot, Join}
@@ -124,7 +124,7 @@ examples =
     runIs example 2 (Release 1 ∷ Release 2 ∷ Finish 2 ∷ Release 2 ∷ replicate 2 Slot) (9 ∷ []) (line 1 1 0 ∷ line 0 0 0 ∷ []) ∷
     []
 
--- a slot of a log made by hand, in which task 1 alone ran, or finished, or did neither
+-- a slot of a log made by hand, by what it says of task 1: whether it ran, and whether it finished; of the others it says nothing
 unfoldable pub slotOf : (ran finished : Bool) → Entry
 slotOf ran finished =
     record {
@@ -176,6 +176,9 @@ claims =
     not (closedIn 2 2 (idle ∷ idle ∷ accepted (Finish 1) ∷ [])) ∷
     -- of task 2 these slots say nothing
     not (closedBySlot 2 (task 9 1 2) (idle ∷ ranLast ∷ [])) ∷
+    -- an accepted join adds its task, a refused one does not
+    eqb (tableAfter (tableOf example) (accepted (Join (task 9 1 2)) ∷ []) .count) 4 ∷
+    eqb (tableAfter (tableOf example) (refused (Join (task 9 1 2)) ∷ []) .count) 3 ∷
     []
 
 -- every test of a list holds

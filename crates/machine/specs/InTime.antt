@@ -52,7 +52,7 @@ unfoldable pub slotCount : List Entry → ℕ
 slotCount [] = 0
 slotCount (e ∷ log) = cond (acceptedSlot e) (suc (slotCount log)) (slotCount log)
 
--- the entries "up to and including" the d-th accepted slot
+-- the entries "up to and including" the d-th accepted slot: all where fewer follow, and none for d = 0
 unfoldable pub upToSlot : (d : ℕ) → List Entry → List Entry
 upToSlot d [] = []
 upToSlot d (e ∷ log) = cond (eqb d 0) [] (e ∷ upToSlot (cond (acceptedSlot e) (d - 1) d) log)
@@ -92,7 +92,7 @@ pub record InTime (t : Table) (log : List Entry) : Type 0 where
   pub none-late :
       (before after : List Entry) (e : Entry) → log ≡ before ++ e ∷ after → isSlot (e .call) ≡ true
       → (i : ℕ) → getD (e .report .late) i false ≡ false
-  -- "The job of an accepted release of a task with budget C and deadline D is closed by the D-th slot after that release"
+  -- "The job of an accepted release of a task with budget C and deadline D is closed by the D-th slot after that release", where so many follow
   pub all-closed :
       (before after : List Entry) (e : Entry) (number : ℕ) → log ≡ before ++ e ∷ after
       → e .call ≡ Release number → isDone (e .outcome) ≡ true
@@ -103,7 +103,7 @@ pub record InTime (t : Table) (log : List Entry) : Type 0 where
 unfoldable pub Promise : Table → (cores : ℕ) → Type 0
 Promise t cores = judged t cores .admits ≡ true → (calls : List Call) → InTime t (play (start t cores .machine) calls)
 
--- what a start gives: its answer, and the promise
+-- what a start's contract says: which answer it gives, and the promise of its table and cores
 pub record Started (t : Table) (cores : ℕ) (answer : Answer) : Type 0 where
   pub is : answer ≡ start t cores
   pub in-time : Promise t cores

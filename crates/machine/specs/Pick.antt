@@ -22,7 +22,7 @@ waiting m picked i = jobAt m i .«open» && not (getD picked i false)
 unfoldable pub precedes : Machine → (i j : ℕ) → Bool
 precedes m i j = jobPrecedes (jobAt m i) i (jobAt m j) j
 
--- the tasks among which the next runner is searched for
+-- the tasks of the table, as the search for the next runner goes by them
 unfoldable pub candidates : Machine → (picked : List Bool) → Candidates
 candidates m picked = record { count = m .table .count; waits = waiting m picked; precedes = precedes m }
 
@@ -31,7 +31,7 @@ unfoldable pub withPicked : List Bool → (number : ℕ) → List Bool
 withPicked picked zero = picked
 withPicked picked (suc i) = set picked i true
 
--- the first k tasks in precedence: each pick is the next runner among the tasks not yet picked
+-- the first k open tasks in precedence, all of them where fewer are open: each pick is the next runner among those not yet picked
 unfoldable pub pick : Machine → (k : ℕ) → List Bool
 pick m zero = replicate maxTasks false
 pick m (suc k) = withPicked (pick m k) (nextRunner (candidates m (pick m k)))

@@ -10,7 +10,7 @@ use Rattle.machine.specs.Pick.{waiting}
 use Rattle.machine.specs.Slot.{replaced}
 use Rattle.machine.specs.declared.machine.Machine.{Machine}
 
--- the rank of the task at an index, of which some are picked
+-- the rank of the task at an index, where some tasks are picked: its job's while it waits, and else `never`
 unfoldable pub rankAt : Machine → (picked : List Bool) → ℕ → ℕ
 rankAt m picked i = cond (waiting m picked i) (rank (jobAt m i)) never
 

@@ -11,11 +11,11 @@ use Rattle.machine.specs.Pick.{runners, runnerCount}
 use Rattle.machine.specs.declared.machine.Machine.{Machine}
 use Rattle.machine.specs.declared.answer.Report.{Report}
 
--- a job after steps 2 and 3
+-- the job of the task at an index after steps 2 and 3
 unfoldable pub passed : Machine → ℕ → Job
 passed m i = aged (charged (getD (runners m) i false) (jobAt m i))
 
--- a list with its first n entries replaced by those of f: entries past the table's count stay as they are
+-- a list with its first n entries replaced by those of f; the others stay as they are
 unfoldable pub replaced : {A : Type 0} → (n : ℕ) → (ℕ → A) → List A → List A
 replaced zero f l = l
 replaced (suc n) f l = set (replaced n f l) n (f n)

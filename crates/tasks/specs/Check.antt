@@ -22,7 +22,8 @@ firstOutOfRange tasks i (suc n) = cond (inRange (getD tasks i zeroTask)) (firstO
 unfoldable pub coresInRange : ℕ → Bool
 coresInRange m = leb 1 m && leb m maxCores
 
--- "Judging or starting a given table: 3, 6, then 5 task by task, then 7"
+-- "Judging or starting a given table: 3, 6, then 5 task by task, then 7"; "For 3, 4 and 5 the answer carries the value line or task, from 1 (33
+-- for number 3)"
 unfoldable pub checked : Table → ℕ → Outcome
 checked t m =
     let place = firstOutOfRange (t .tasks) 0 (t .count) in

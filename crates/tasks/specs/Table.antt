@@ -5,7 +5,7 @@ use Rattle.tasks.specs.Limits.{maxTasks}
 use Rattle.tasks.specs.declared.task.Task.{Task}
 use Rattle.tasks.specs.declared.table.Table.{Table}
 
--- what stands in the entries that are no part of a table
+-- the task of zeros: the entries that are no part of a table hold it where the library makes the table, and it is what is read past the last entry
 unfoldable pub zeroTask : Task
 zeroTask = record { period = 0; budget = 0; deadline = 0 }
 

@@ -21,7 +21,7 @@ pub record Put (before : List ℕ) (used : ℕ) (text after : List ℕ) (r : ℕ
   pub array : after ≡ arrayAfter before used text
   pub count : r ≡ usedAfter (length before) used (length text)
 
--- the same of a text that was put in several parts: where it has room, the first r bytes are the first `used` of the array before, and the text
+-- what is told of a text that was put in several parts: where it has room, the first r bytes are the first `used` of the array before, and the text
 pub record Grown (before : List ℕ) (used : ℕ) (text after : List ℕ) (r : ℕ) : Type 0 where
   pub size : length after ≡ length before
   pub count : r ≡ usedAfter (length before) used (length text)
