@@ -1,6 +1,6 @@
--- Laws of `Put`, `Grown` and `Holds`. The two cases of `Put` are `put-full` and `put-fits`. Others cite `put-grown`, that what was put has grown the
--- array; `grown-none`, `grown-more` and `grown-four`, one text after another; `grown-within` and `grown-count`, how many bytes are used then;
--- and `grown-after`, `grown-all` and `held-within`, what the whole array holds.
+-- Laws of `Put`, `Grown` and `Holds`. The functions' proofs cite `put-full` and `put-fits`, the two cases of `Put`, and `put-ends`, the byte after a
+-- text. Others cite `put-grown`, that what was put has grown the array; `grown-none`, `grown-more` and `grown-four`, one text after another;
+-- `grown-within` and `grown-count`, how many bytes are used then; and `grown-after`, `grown-all` and `held-within`, what the whole array holds.
 use Prim.Native.Nat.{ℕ, suc, _+_, _≤_, _<_}
 use native.Mathlib.Nat.{add-assoc, lt-of-not-le}
 use native.Mathlib.Decide.{decLe}
