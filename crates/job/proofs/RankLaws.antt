@@ -1,8 +1,8 @@
 -- The rank of a job. Others cite: `open-rank`, that an open job's is that of a waiting task; and `rank-precedes`, that precedence by rank is
 -- precedence. Both ask that left has 32 bits, as it has in the code.
 use Prim.Native.Nat.{ℕ, _+_, _<_}
-use mathlib.Core.Path.{_≡_, refl}
-use mathlib.Core.Bool.{Bool, true, false}
+use mathlib.Core.Path.{_≡_}
+use mathlib.Core.Bool.{true}
 use native.Mathlib.Omega.{arith}
 use lib.Dec.{eqb, ltb}
 use borrow.Author.Tests.{lt-ltb, le-ltb, eq-eqb, ne-eqb}

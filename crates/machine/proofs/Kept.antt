@@ -1,9 +1,8 @@
 -- The invariant of a machine on an admitted table: a fresh machine has it (`kept-fresh`), every call keeps it (`kept-call`), and by it no
 -- job is late in a slot (`slot-on-time`).
-use Prim.Native.Nat.{ℕ, zero, suc, _-_, _≤_, _<_}
-use mathlib.Core.Path.{_≡_, refl, _∙_}
+use Prim.Native.Nat.{ℕ, _-_, _≤_, _<_}
+use mathlib.Core.Path.{_≡_}
 use mathlib.Core.Bool.{true, false}
-use mathlib.Core.List.{List}
 use lib.ListN.{length, getD, replicate, length-set, length-replicate, getD-replicate}
 use native.Mathlib.Omega.{arith}
 use Rattle.tasks.specs.declared.task.Task.{Task}
@@ -20,7 +19,7 @@ use Rattle.judge.specs.Judge.{judged}
 use Rattle.job.specs.Job.{freshJob}
 use Rattle.machine.specs.Machine.{jobAt, withJob}
 use Rattle.machine.specs.Pick.{runners}
-use Rattle.machine.specs.Slot.{replaced, afterSlot}
+use Rattle.machine.specs.Slot.{afterSlot}
 use Rattle.machine.specs.Sound.{sound}
 use Rattle.machine.specs.Calls.{done, startAfter, start, withJoined, step}
 use Rattle.machine.specs.declared.machine.Machine.{Machine}

@@ -1,14 +1,14 @@
 -- A slot of a sound machine is one of the theory's. Others cite: `slot-step`; `ran-in`, `late-is` and `finished-is`, on the report;
 -- `finished-at` and `late-at`, an entry of it; and `after-slot-job` and `after-slot-past`, the job at each index after the slot.
 use Prim.Native.Nat.{ℕ, _-_, _≤_, _<_}
-use mathlib.Core.Path.{_≡_, refl, sym, _∙_}
-use mathlib.Core.Bool.{Bool, true, false, not, _&&_, _||_, and-eq-true-iff}
+use mathlib.Core.Path.{_≡_, sym, _∙_}
+use mathlib.Core.Bool.{Bool, true, false, not, _&&_, and-eq-true-iff}
 use native.Mathlib.Omega.{arith}
 use lib.Dec.{eqb}
 use lib.ListN.{getD, length, replicate, length-replicate, List·getD-eq-default}
-use borrow.Author.Tests.{eqb-true, eqb-false, eq-eqb, ne-eqb, not-true}
+use borrow.Author.Tests.{eqb-true, eqb-false, eq-eqb, not-true}
 use Rattle.edzl.specs.Sums.{bit}
-use Rattle.edzl.proofs.CaseSplits.{by-order, by-equal, by-test, not-both}
+use Rattle.edzl.proofs.CaseSplits.{by-order, by-equal, not-both}
 use Rattle.edzl.proofs.Invariant.{NoJob}
 use Rattle.edzl.proofs.Slot.{StillOpen, SlotEffect, Slotted}
 use Rattle.tasks.specs.Limits.{maxTasks}

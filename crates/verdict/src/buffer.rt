@@ -2,7 +2,7 @@
 
 ghost use Prim.Native.Nat.{_+_, _≤_, _<_};
 ghost use mathlib.Core.Path.{_≡_};
-ghost use mathlib.Core.List.{List, [], _∷_};
+ghost use mathlib.Core.List.{[], _∷_};
 ghost use lib.ListN.{length as listLength};
 ghost use Rattle.verdict.specs.Text.{decimalText};
 ghost use Rattle.verdict.specs.Grown.{room, Grown};
