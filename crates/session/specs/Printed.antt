@@ -31,3 +31,7 @@ caseK = session (task 5 5 5 ∷ task 5 5 5 ∷ []) 1 5
 -- the lines of both, "with no line of names and nothing between the two"
 unfoldable pub printed : List ℕ
 printed = slotLinesFrom 1 caseJ ++ slotLinesFrom 1 caseK
+
+-- the room that an array needs for it: eleven lines of eight bytes
+abbrev pub room : ℕ
+room = 88

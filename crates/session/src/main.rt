@@ -15,7 +15,7 @@ ghost use Rattle.machine.specs.Play.{play as log};
 ghost use Rattle.machine.specs.Cases.{task, releases};
 ghost use Rattle.machine.specs.declared.call.Call.{Call};
 ghost use Rattle.machine.specs.declared.call.Call.the-variants.{Slot};
-ghost use Rattle.session.specs.Printed.{slotLine, slotLinesFrom, caseJ, caseK, printed};
+ghost use Rattle.session.specs.Printed.{slotLine, slotLinesFrom, caseJ, caseK, printed, room};
 
 // Eleven lines of eight bytes.
 const OUTPUT_ROOM: usize = 88;
@@ -103,7 +103,7 @@ fn case_k() -> Machine
 
 // Puts what is printed at the start of the output: how many bytes it is.
 fn sessions(output: &mut [u8]) -> usize
-    requires { ⌜ 88 ≤ length (now output) ⌝ }
+    requires { ⌜ room ≤ length (now output) ⌝ }
     ensures { λ r. ⌜ Holds printed (now (output .exit)) r ⌝ }
 {
     let used = play(output, 0, case_j(), 6);
