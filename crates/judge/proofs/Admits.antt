@@ -1,7 +1,7 @@
--- What it says of a table that its verdict is "admitted": `admits-means`. Computed verdicts see through `computingVerdicts`.
+-- What it says of a table that its verdict is "admitted": `admits-means`.
 use Prim.Native.Nat.{ℕ}
 use mathlib.Core.Path.{_≡_, refl}
-use mathlib.Core.Bool.{Bool, true, false}
+use mathlib.Core.Bool.{true, false}
 use Rattle.tasks.specs.declared.table.Table.{Table}
 use Rattle.tasks.specs.declared.outcome.Outcome.{Outcome}
 use Rattle.tasks.specs.declared.outcome.Outcome.the-variants.{Done, Refused}
@@ -22,8 +22,3 @@ admits-means t m = go (checked t m) refl
     go : (verdict : Outcome) → checked t m ≡ verdict → judgedAfter verdict t m .admits ≡ true → Admits t m
     go Done e h = record { checks = e; admits = h }
     go (Refused number place) e h = not-both false h refl
-
--- what a computed verdict looks through, in one name
-unfoldable pub computingVerdicts : Bool
-unfolding refusedValues judgedAfter judged
-computingVerdicts = true

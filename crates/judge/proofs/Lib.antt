@@ -4,3 +4,4 @@ pub mod Turns
 pub mod OwnPart
 pub mod Listed
 pub mod Admits
+pub mod Computing

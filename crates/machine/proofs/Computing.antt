@@ -7,7 +7,7 @@ use Rattle.tasks.specs.Table.{zeroTask, emptyTable, withTask}
 use Rattle.tasks.specs.Check.{firstOutOfRange, coresInRange, checked}
 use Rattle.tasks.specs.Outcome.{isDone}
 use Rattle.tasks.specs.TaskSet.{firstTasks, tasksOf}
-use Rattle.judge.proofs.Admits.{computingVerdicts}
+use Rattle.judge.proofs.Computing.{computingVerdicts}
 use Rattle.job.proofs.Computing.{computingJobs}
 use Rattle.machine.specs.Machine.{zeroMachine, taskAt, jobAt, withJob, inTable}
 use Rattle.machine.specs.Pick.{openCount, waiting, precedes, candidates, withPicked, pick, runnerCount, runners}

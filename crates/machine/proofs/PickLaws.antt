@@ -1,6 +1,5 @@
--- The pick is a legal choice of runners. Others cite: `runners-legal`; `runner-in` and `runner-open`, that a runner is an open task of the table;
--- `runners-number`, how many there are; `waits-open`, that a waiting task is open; `length-pick`; and `Runner` with `next-in`, that while fewer are
--- picked than are open the next runner is a task of the table that waits.
+-- The pick is a legal choice of runners. Others cite: `runners-legal`; `waits-open`, that a waiting task is open; `length-pick`; and `Runner` with
+-- `next-in`, that while fewer are picked than are open the next runner is a task of the table that waits.
 use Prim.Native.Nat.{ℕ, zero, suc, _≤_, _<_}
 use mathlib.Core.Path.{_≡_, refl, sym, _∙_, subst}
 use mathlib.Core.Bool.{Bool, true, false, and-eq-true-iff}
@@ -101,9 +100,8 @@ module _ (m : Machine) (x y : ℕ) (open-x : jobAt m x .«open» ≡ true) (open
   beats-precedes (both-urgent u v l) = holds _ x _ y (by-left (rw (open-x, le-leb _ _ u, open-y, le-leb _ _ v)) l)
   beats-precedes (neither-urgent c d l) = holds _ x _ y (by-left (rw (open-x, lt-leb _ _ c, open-y, lt-leb _ _ d)) l)
 
--- What holds of the first k picks: they are open tasks of the table, k in number, and no task that still waits precedes one of them.
+-- What holds of the first k picks: they are open, k in number among the tasks of the table, and no task that still waits precedes one of them.
 record Picked (m : Machine) (k : ℕ) : Type 0 where
-  inside : (i : ℕ) → isPicked m k i ≡ true → i < m .table .count
   opened : (i : ℕ) → isPicked m k i ≡ true → jobAt m i .«open» ≡ true
   number : sumTo (m .table .count) (λ i. bit (isPicked m k i)) ≡ k
   first : (y : ℕ) → isPicked m k y ≡ true → (x : ℕ) → x < m .table .count → Behind m (pick m k) y x
@@ -126,7 +124,6 @@ module _ (m : Machine) where
   picked-none : Picked m 0
   picked-none =
       record {
-        inside = λ i p. not-both (isPicked m 0 i) p (none-picked i);
         opened = λ i p. not-both (isPicked m 0 i) p (none-picked i);
         number =
             omega (
@@ -179,7 +176,6 @@ module _ (m : Machine) (fits : m .table .count ≤ maxTasks) where
     unfolding runner
     picked-more =
         record {
-          inside = each (λ i. i < m .table .count) (next .inside) (picked .inside);
           opened =
               each (λ i. jobAt m i .«open» ≡ true) (waits-open m (pick m k) runner (next .waits)) (picked .opened);
           number =
@@ -212,15 +208,11 @@ module _ (m : Machine) (fits : m .table .count ≤ maxTasks) where
   unfolding runnerCount
   all-runners = picks (runnerCount m) (omega arith)
 
-  pub runner-in : (i : ℕ) → getD (runners m) i false ≡ true → i < m .table .count
-  unfolding runners
-  runner-in = all-runners .inside
-
-  pub runner-open : (i : ℕ) → getD (runners m) i false ≡ true → jobAt m i .«open» ≡ true
+  runner-open : (i : ℕ) → getD (runners m) i false ≡ true → jobAt m i .«open» ≡ true
   unfolding runners
   runner-open = all-runners .opened
 
-  pub runners-number : sumTo (m .table .count) (λ i. bit (getD (runners m) i false)) ≡ runnerCount m
+  runners-number : sumTo (m .table .count) (λ i. bit (getD (runners m) i false)) ≡ runnerCount m
   unfolding runners
   runners-number = all-runners .number
 

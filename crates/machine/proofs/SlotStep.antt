@@ -1,5 +1,4 @@
--- A slot of a sound machine is one of the theory's. Others cite: `slot-step`; `ran-in`, `late-is` and `finished-is`, on the report;
--- `finished-at` and `late-at`, an entry of it; and `after-slot-job` and `after-slot-past`, the job at each index after the slot.
+-- A slot of a sound machine is one of the theory's. Others cite: `slot-step`; and `late-is` and `finished-is`, on the report.
 use Prim.Native.Nat.{ℕ, _-_, _≤_, _<_}
 use mathlib.Core.Path.{_≡_, sym, _∙_}
 use mathlib.Core.Bool.{Bool, true, false, not, _&&_, and-eq-true-iff}
@@ -25,14 +24,14 @@ use Rattle.job.proofs.SlotLaws.{settled-gap, settled-closed, settled-finished, 
 use Rattle.machine.proofs.State.{jobsOf}
 use Rattle.machine.proofs.ListLaws.{replicate-entry, replaced-at, replaced-past, replaced-short}
 use Rattle.machine.proofs.SoundLaws.{sound-passes, sound-closed}
-use Rattle.machine.proofs.PickLaws.{runner-in, runner-open, runners-legal}
+use Rattle.machine.proofs.PickLaws.{runners-legal}
 
 module _ (m : Machine) where
   fresh-after : (i : ℕ) → jobAt m i ≡ freshJob → settled (passed m i) ≡ freshJob
   unfolding passed
   fresh-after i none = rw none (fresh-stays _)
 
-  pub after-slot-job : (i : ℕ) → i < m .table .count → jobAt (afterSlot m) i ≡ settled (passed m i)
+  after-slot-job : (i : ℕ) → i < m .table .count → jobAt (afterSlot m) i ≡ settled (passed m i)
   unfolding jobAt afterSlot
   after-slot-job i h =
       by-order (length (m .jobs)) i
@@ -40,15 +39,6 @@ module _ (m : Machine) where
       replaced-short (λ i. settled (passed m i)) (m .jobs) freshJob (m .table .count) i short
       ∙ sym (fresh-after i (List·getD-eq-default (m .jobs) freshJob short)))
       (λ long. replaced-at (λ i. settled (passed m i)) (m .jobs) freshJob (m .table .count) i h long)
-
-  pub after-slot-past : (i : ℕ) → m .table .count ≤ i → jobAt (afterSlot m) i ≡ jobAt m i
-  unfolding jobAt afterSlot
-  after-slot-past i h = replaced-past (λ i. settled (passed m i)) (m .jobs) freshJob (m .table .count) i h
-
--- A task that ran: it is one of the table's, and its job was open.
-pub record Ran (m : Machine) (i : ℕ) : Type 0 where
-  pub inside : i < m .table .count
-  pub was-open : jobsOf m .isOpen i ≡ true
 
 -- A task reported late: its job was open, and after steps 2 and 3 it still owes a slot and has none left.
 pub record Late (m : Machine) (i : ℕ) : Type 0 where
@@ -58,23 +48,17 @@ pub record Late (m : Machine) (i : ℕ) : Type 0 where
   pub out : jobsOf m .left i - 1 ≡ 0
 
 module _ (m : Machine) (i : ℕ) (ok : sound m ≡ true) where
-  pub ran-in : getD (runners m) i false ≡ true → Ran m i
-  unfolding jobsOf
-  ran-in e =
-      let fits = sound-passes m ok .count-fits in
-      record { inside = runner-in m fits i e; was-open = runner-open m fits i e }
-
   -- An entry of the report.
   reported : (f : ℕ → Bool) → i < m .table .count → getD (replaced (m .table .count) f (replicate maxTasks false)) i false ≡ f i
   reported f h =
       replaced-at f (replicate maxTasks false) false (m .table .count) i h
       (omega (arith, length-replicate maxTasks false, sound-passes m ok .count-fits))
 
-  pub finished-at : i < m .table .count → getD (slotReport m .finished) i false ≡ isFinished (passed m i)
+  finished-at : i < m .table .count → getD (slotReport m .finished) i false ≡ isFinished (passed m i)
   unfolding slotReport
   finished-at h = reported (λ i. isFinished (passed m i)) h
 
-  pub late-at : i < m .table .count → getD (slotReport m .late) i false ≡ isLate (passed m i)
+  late-at : i < m .table .count → getD (slotReport m .late) i false ≡ isLate (passed m i)
   unfolding slotReport
   late-at h = reported (λ i. isLate (passed m i)) h
 

@@ -14,7 +14,8 @@ use Rattle.tasks.specs.Outcome.{isDone}
 use Rattle.tasks.specs.TaskSet.{tasksOf}
 use Rattle.tasks.proofs.Checked.{Passes, passes}
 use Rattle.tasks.proofs.Range.{range-of}
-use Rattle.tasks.proofs.TaskSetLaws.{is-done, well-checked}
+use Rattle.tasks.proofs.OutcomeLaws.{is-done}
+use Rattle.tasks.proofs.TaskSetLaws.{well-checked}
 use Rattle.job.specs.Sound.{jobSound}
 use Rattle.job.specs.Rank.{later}
 use Rattle.job.proofs.SoundLaws.{closed-numbers, left-within}

@@ -2,3 +2,4 @@ pub mod Checked
 pub mod Range
 pub mod Small
 pub mod TaskSetLaws
+pub mod OutcomeLaws

@@ -1,18 +1,15 @@
--- What an accepted check says of a table's tasks as plain numbers: `well-checked`. And of an outcome: `is-done`.
+-- What an accepted check says of a table's tasks as plain numbers: `well-checked`.
 use Prim.Native.Nat.{ℕ}
-use mathlib.Core.Path.{_≡_, refl}
-use mathlib.Core.Bool.{true, false}
+use mathlib.Core.Path.{_≡_}
+use mathlib.Core.Bool.{true}
 use lib.ListN.{getD}
 use Rattle.edzl.proofs.WellFormed.{TaskFits, WellFormed}
-use Rattle.edzl.proofs.CaseSplits.{not-both}
 use Rattle.tasks.specs.declared.task.Task.{Task}
 use Rattle.tasks.specs.declared.table.Table.{Table}
-use Rattle.tasks.specs.declared.outcome.Outcome.{Outcome}
-use Rattle.tasks.specs.declared.outcome.Outcome.the-variants.{Done, Refused}
+use Rattle.tasks.specs.declared.outcome.Outcome.the-variants.{Done}
 use Rattle.tasks.specs.Task.{inRange}
 use Rattle.tasks.specs.Table.{zeroTask}
 use Rattle.tasks.specs.Check.{checked}
-use Rattle.tasks.specs.Outcome.{isDone}
 use Rattle.tasks.specs.TaskSet.{firstTasks, tasksOf}
 use Rattle.tasks.proofs.Checked.{passes}
 use Rattle.tasks.proofs.Range.{range-of}
@@ -25,8 +22,3 @@ task-fits t h =
 pub well-checked : (t : Table) (m : ℕ) → checked t m ≡ Done → WellFormed (tasksOf t)
 unfolding WellFormed tasksOf firstTasks
 well-checked t m e i h = task-fits (getD (t .tasks) i zeroTask) (passes t m e .tasks-fit i h)
-
-pub is-done : (o : Outcome) → isDone o ≡ true → o ≡ Done
-unfolding isDone
-is-done Done e = refl
-is-done (Refused number place) e = not-both false e refl
