@@ -8,7 +8,7 @@ use native.Mathlib.Omega.{arith}
 use Rattle.edzl.specs.TaskSet.{TaskSet}
 use Rattle.edzl.specs.Sums.{sumTo, bit}
 use Rattle.edzl.specs.Window.{mayTurnUrgent, countUrgent}
-use Rattle.edzl.proofs.CaseSplits.{by-order, by-test}
+use Rattle.laws.proofs.CaseSplits.{by-order, by-test}
 use Rattle.edzl.proofs.SumLaws.{sum-strict, bit-true, bit-false, bit-monotone}
 use Rattle.edzl.proofs.Invariant.{Jobs, Invariant, urgent-counted}
 

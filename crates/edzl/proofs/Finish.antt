@@ -5,7 +5,7 @@ use mathlib.Core.Bool.{true}
 use native.Mathlib.Omega.{arith}
 use Rattle.edzl.specs.TaskSet.{TaskSet}
 use Rattle.edzl.proofs.WellFormed.{WellFormed}
-use Rattle.edzl.proofs.CaseSplits.{by-equal, not-both}
+use Rattle.laws.proofs.CaseSplits.{by-equal, not-both}
 use Rattle.edzl.proofs.Potential.{finish}
 use Rattle.edzl.proofs.Invariant.{Jobs, NoJob, Shape, Bound, Invariant, SameJob, claim, claim-open, claim-closed, shape-closed, shape-same, claim-same, in-time-same, bound-same}
 

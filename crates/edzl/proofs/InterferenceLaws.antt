@@ -6,7 +6,7 @@ use mathlib.Core.Path.{_≡_, sym}
 use native.Mathlib.Nat.{le-refl, mul-le-mul-left, add-zero, add-suc, div-add-mod', div-eq-of-lt-le, mod-lt}
 use native.Mathlib.Omega.{arith}
 use Rattle.edzl.specs.Window.{interference}
-use Rattle.edzl.proofs.CaseSplits.{by-order}
+use Rattle.laws.proofs.CaseSplits.{by-order}
 
 module _ (T C : ℕ) (T-some : 1 ≤ T) (C-fits : C ≤ T) where
   -- The value where the quotient is known.

@@ -12,7 +12,7 @@ use Rattle.edzl.specs.TaskSet.{TaskSet}
 use Rattle.edzl.proofs.WellFormed.{TaskFits}
 use Rattle.edzl.specs.Window.{interference, spare, others, windowSum, mayTurnUrgent, noSlack}
 use Rattle.edzl.specs.Sums.{sumTo}
-use Rattle.edzl.proofs.CaseSplits.{by-order, by-test, not-both}
+use Rattle.laws.proofs.CaseSplits.{by-order, by-test, not-both}
 use Rattle.edzl.proofs.SumLaws.{sum-longer, others-monotone}
 use Rattle.edzl.proofs.Potential.{openClaim, closedClaim, start-open, start-closed}
 

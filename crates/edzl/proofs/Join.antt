@@ -7,7 +7,7 @@ use native.Mathlib.Omega.{arith}
 use Rattle.edzl.specs.TaskSet.{TaskSet}
 use Rattle.edzl.proofs.WellFormed.{WellFormed}
 use Rattle.edzl.specs.Window.{interference, spare, noSlack}
-use Rattle.edzl.proofs.CaseSplits.{by-order, not-both}
+use Rattle.laws.proofs.CaseSplits.{by-order, not-both}
 use Rattle.edzl.proofs.InterferenceLaws.{monotone}
 use Rattle.edzl.proofs.WindowLaws.{SameTask}
 use Rattle.edzl.proofs.Invariant.{Jobs, NoJob, Shape, Bound, Invariant, SameJob, allowance, claim, lost, claim-start, shape-closed, shape-same, in-time-same, bound-moved}

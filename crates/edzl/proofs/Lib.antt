@@ -1,5 +1,4 @@
 pub mod WellFormed
-pub mod CaseSplits
 pub mod InterferenceLaws
 pub mod SumLaws
 pub mod WindowLaws

@@ -6,7 +6,7 @@ use mathlib.Core.Path.{_≡_, ap}
 use native.Mathlib.Omega.{arith}
 use Rattle.edzl.proofs.WellFormed.{TaskFits}
 use Rattle.edzl.specs.Window.{interference}
-use Rattle.edzl.proofs.CaseSplits.{by-order}
+use Rattle.laws.proofs.CaseSplits.{by-order}
 use Rattle.edzl.proofs.InterferenceLaws as I
 
 -- The staircase of interference, rising at the end of each period instead of at its start.

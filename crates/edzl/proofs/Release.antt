@@ -6,7 +6,7 @@ use native.Mathlib.Omega.{arith}
 use Rattle.edzl.specs.TaskSet.{TaskSet}
 use Rattle.edzl.proofs.WellFormed.{WellFormed}
 use Rattle.edzl.specs.Window.{spare}
-use Rattle.edzl.proofs.CaseSplits.{by-equal, not-both}
+use Rattle.laws.proofs.CaseSplits.{by-equal, not-both}
 use Rattle.edzl.proofs.Potential.{release}
 use Rattle.edzl.proofs.Invariant.{Jobs, Shape, Bound, Ahead, SlackFits, Invariant, SameJob, allowance, claim, lost, claim-open, claim-closed, claim-start, shape-same, claim-same, in-time-same, bound-same}
 

@@ -7,7 +7,7 @@ use native.Mathlib.Omega.{arith}
 use borrow.Author.Tests.{eq-eqb, ne-eqb}
 use Rattle.edzl.specs.Sums.{sumTo, bit}
 use Rattle.edzl.specs.Window.{others}
-use Rattle.edzl.proofs.CaseSplits.{by-equal, by-test}
+use Rattle.laws.proofs.CaseSplits.{by-equal, by-test}
 
 -- Below n, a property of the indexes below suc n.
 down : {P : ℕ → Type 0} (n : ℕ) → ((i : ℕ) → i < suc n → P i) → (i : ℕ) → i < n → P i

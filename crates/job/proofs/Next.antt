@@ -6,7 +6,7 @@ use mathlib.Core.Path.{_≡_, refl, sym, ap, _∙_, subst}
 use mathlib.Core.Bool.{true, false, _&&_, and-eq-true-iff}
 use native.Mathlib.Omega.{arith}
 use borrow.Author.Tests.{not-true}
-use Rattle.edzl.proofs.CaseSplits.{by-equal, by-test, not-both}
+use Rattle.laws.proofs.CaseSplits.{by-equal, by-test, not-both}
 use Rattle.job.specs.Search.{Candidates, unpreceded, isNext, firstNext, nextRunner}
 
 -- Precedence among the tasks of a search is a strict order.

@@ -7,7 +7,7 @@ use mathlib.Core.Logic.{_⊎_, inl, inr, ⊎-elim}
 use native.Mathlib.Omega.{arith}
 use lib.Dec.{eqb, ltb}
 use borrow.Author.Tests.{ltb-true, eqb-true, lt-ltb, eq-eqb}
-use Rattle.edzl.proofs.CaseSplits.{by-order, by-equal, by-test, not-both}
+use Rattle.laws.proofs.CaseSplits.{by-order, by-equal, by-test, not-both}
 use Rattle.job.specs.Job.{isUrgent}
 use Rattle.job.specs.Precedence.{leftFirst, byUrgency, jobPrecedes}
 use Rattle.job.specs.declared.job.Job.{Job}

@@ -6,7 +6,7 @@ use mathlib.Core.Bool.{true}
 use native.Mathlib.Omega.{arith}
 use lib.Dec.{eqb, ltb}
 use borrow.Author.Tests.{lt-ltb, le-ltb, eq-eqb, ne-eqb}
-use Rattle.edzl.proofs.CaseSplits.{by-order, by-equal, by-test}
+use Rattle.laws.proofs.CaseSplits.{by-order, by-equal, by-test}
 use Rattle.job.specs.Job.{isUrgent}
 use Rattle.job.specs.Precedence.{leftFirst, byUrgency, jobPrecedes}
 use Rattle.job.specs.Rank.{later, never, rank, waits, rankPrecedes}

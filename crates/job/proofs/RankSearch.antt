@@ -9,7 +9,7 @@ use native.Mathlib.Omega.{arith}
 use lib.Dec.{eqb}
 use lib.ListN.{getD, length}
 use borrow.Author.Tests.{lt-ltb, le-ltb, ltb-true, ltb-false, ne-eqb}
-use Rattle.edzl.proofs.CaseSplits.{by-order, by-equal, by-test, not-both}
+use Rattle.laws.proofs.CaseSplits.{by-order, by-equal, by-test, not-both}
 use Rattle.job.specs.Search.{nextRunner}
 use Rattle.job.specs.Rank.{never, waits, rankPrecedes, ranked}
 use Rattle.job.proofs.Next.{up, Behind, is-next, idle-not-next, preceded-not-next, first-next, none-next}

@@ -4,7 +4,7 @@ use mathlib.Core.Path.{_≡_, refl}
 use mathlib.Core.Bool.{Bool, true, false, _&&_, and-eq-true-iff}
 use lib.Dec.{eqb, leb}
 use borrow.Author.Tests.{eqb-true, leb-true}
-use Rattle.edzl.proofs.CaseSplits.{not-both}
+use Rattle.laws.proofs.CaseSplits.{not-both}
 use Rattle.tasks.specs.declared.task.Task.{Task}
 use Rattle.job.specs.Sound.{openSound, closedSound, jobSound}
 use Rattle.job.specs.declared.job.Job.{Job}

@@ -8,7 +8,7 @@ use Rattle.tasks.specs.declared.outcome.Outcome.the-variants.{Done, Refused}
 use Rattle.tasks.specs.Check.{checked}
 use Rattle.tasks.specs.TaskSet.{tasksOf}
 use Rattle.edzl.specs.Window.{admitted}
-use Rattle.edzl.proofs.CaseSplits.{not-both}
+use Rattle.laws.proofs.CaseSplits.{not-both}
 use Rattle.judge.specs.Judge.{refusedValues, judgedAfter, judged}
 
 pub record Admits (t : Table) (m : ℕ) : Type 0 where

@@ -11,7 +11,7 @@ use Rattle.edzl.specs.TaskSet.{TaskSet}
 use Rattle.edzl.specs.Window.{interference, spare, others, noSlack, windowSum, mayTurnUrgent, countUrgent}
 use Rattle.edzl.specs.Sums.{sumTo, bit}
 use Rattle.edzl.proofs.WellFormed.{WellFormed}
-use Rattle.edzl.proofs.CaseSplits.{by-order}
+use Rattle.laws.proofs.CaseSplits.{by-order}
 use Rattle.edzl.proofs.InterferenceLaws.{first-period}
 use Rattle.edzl.proofs.SumLaws.{sum-same, sum-others, others-same}
 

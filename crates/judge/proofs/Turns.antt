@@ -6,7 +6,7 @@ use mathlib.Core.Path.{_≡_, refl, _∙_}
 use mathlib.Core.List.{List}
 use lib.ListN.{length, getD, set, length-set}
 use lib.Seq.{getD-set-same, getD-set-other}
-use Rattle.edzl.proofs.CaseSplits.{by-equal}
+use Rattle.laws.proofs.CaseSplits.{by-equal}
 
 -- An array of n elements, of which each below k is what f gives.
 pub record Filled (n : ℕ) (f : ℕ → ℕ) (l : List ℕ) (k : ℕ) : Type 0 where

@@ -13,7 +13,7 @@ use Rattle.tasks.specs.Limits.{maxTasks}
 use Rattle.tasks.specs.Refusals.{unsoundMachine, taskOutOfRange, noSuchTask, releasedTooSoon, jobStillOpen, jobNotOpen, tableFull}
 use Rattle.tasks.specs.Task.{inRange}
 use Rattle.tasks.specs.Table.{withTask}
-use Rattle.edzl.proofs.CaseSplits.{not-both}
+use Rattle.laws.proofs.CaseSplits.{not-both}
 use Rattle.judge.specs.Judge.{Values, judged}
 use Rattle.job.specs.Job.{closedJob, releasedJob}
 use Rattle.machine.specs.Machine.{taskAt, jobAt, inTable, withJob}

@@ -9,7 +9,7 @@ use borrow.Author.Tests.{eq-eqb}
 use Rattle.tasks.specs.declared.task.Task.{Task}
 use Rattle.tasks.specs.Table.{withTask}
 use Rattle.edzl.specs.Sums.{bit}
-use Rattle.edzl.proofs.CaseSplits.{by-order, by-equal, by-test, not-both}
+use Rattle.laws.proofs.CaseSplits.{by-order, by-equal, by-test, not-both}
 use Rattle.edzl.proofs.SumLaws.{bit-true, bit-false}
 use Rattle.edzl.proofs.Invariant.{SameJob}
 use Rattle.tasks.specs.TaskSet.{firstTasks, tasksOf}

@@ -11,7 +11,8 @@ use Rattle.judge.proofs.Computing.{computingVerdicts}
 use Rattle.job.proofs.Computing.{computingJobs}
 use Rattle.machine.specs.Machine.{zeroMachine, taskAt, jobAt, withJob, inTable}
 use Rattle.machine.specs.Pick.{openCount, waiting, precedes, candidates, withPicked, pick, runnerCount, runners}
-use Rattle.machine.specs.Slot.{passed, replaced, noReport, slotReport, afterSlot}
+use Rattle.machine.specs.Slot.{passed, noReport, slotReport, afterSlot}
+use Rattle.laws.specs.Lists.{replaced}
 use Rattle.machine.specs.Sound.{jobsSound, sound}
 use Rattle.machine.specs.Calls.{done, refuse, startAfter, start, release, finish, slot, withJoined, joinAfter, join, step}
 use Rattle.machine.specs.Play.{play}

@@ -9,7 +9,7 @@ use native.Mathlib.Omega.{arith}
 use Rattle.tasks.specs.declared.table.Table.{Table}
 use Rattle.tasks.specs.declared.outcome.Outcome.the-variants.{Done}
 use Rattle.tasks.specs.Table.{zeroTask}
-use Rattle.edzl.proofs.CaseSplits.{not-both}
+use Rattle.laws.proofs.CaseSplits.{not-both}
 use Rattle.judge.specs.Judge.{judged}
 use Rattle.tasks.specs.Outcome.{isDone}
 use Rattle.machine.specs.Slot.{noReport}

@@ -6,7 +6,7 @@ use mathlib.Core.List.{List, [], _∷_}
 use lib.ListN.{getD}
 use native.Mathlib.Omega.{arith}
 use Rattle.tasks.specs.declared.table.Table.{Table}
-use Rattle.edzl.proofs.CaseSplits.{by-test, not-both}
+use Rattle.laws.proofs.CaseSplits.{by-test, not-both}
 use Rattle.machine.specs.Machine.{taskAt, withJob}
 use Rattle.machine.specs.Slot.{slotReport, afterSlot}
 use Rattle.tasks.specs.Outcome.{isDone}

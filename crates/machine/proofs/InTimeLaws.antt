@@ -7,11 +7,11 @@ use mathlib.Core.List.{List, [], _∷_, _++_}
 use lib.ListN.{getD}
 use Rattle.tasks.specs.declared.table.Table.{Table}
 use Rattle.tasks.specs.Table.{zeroTask}
-use Rattle.edzl.proofs.CaseSplits.{not-both}
+use Rattle.laws.proofs.CaseSplits.{not-both}
+use Rattle.laws.proofs.Replaced.{replicate-entry}
 use Rattle.tasks.specs.Limits.{maxTasks}
 use Rattle.machine.specs.Slot.{noReport}
 use Rattle.tasks.specs.Outcome.{isDone}
-use Rattle.machine.proofs.ListLaws.{replicate-entry}
 use Rattle.machine.specs.Play.{Entry}
 use Rattle.machine.specs.InTime.{isSlot, slotCount, joinedBy, tableAfter, closedBySlot, InTime}
 use Rattle.machine.specs.declared.call.Call.the-variants.{Release}

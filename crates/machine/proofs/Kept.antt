@@ -28,7 +28,7 @@ use Rattle.machine.proofs.State.{jobsOf}
 use Rattle.machine.proofs.SlotStep.{slot-step}
 use Rattle.tasks.proofs.TaskSetLaws.{well-checked}
 use Rattle.judge.proofs.Admits.{Admits, admits-means}
-use Rattle.machine.proofs.ListLaws.{length-replaced}
+use Rattle.laws.proofs.Replaced.{length-replaced}
 use Rattle.machine.proofs.SoundLaws.{sound-fits}
 use Rattle.machine.proofs.CallCases.{NumberFits, ReleaseTaken, FinishTaken, JoinTaken, afterRelease, afterFinish, by-call}
 use Rattle.machine.proofs.JobSteps.{release-step, finish-step}

@@ -1,5 +1,4 @@
 pub mod State
-pub mod ListLaws
 pub mod SoundLaws
 pub mod PickLaws
 pub mod RanksLaws

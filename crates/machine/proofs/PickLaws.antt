@@ -10,7 +10,8 @@ use lib.ListN.{getD, set, length, length-set, length-replicate}
 use lib.Seq.{getD-set-same, getD-set-other}
 use borrow.Author.Tests.{not-true, le-leb, lt-leb}
 use Rattle.edzl.specs.Sums.{sumTo, bit}
-use Rattle.edzl.proofs.CaseSplits.{by-order, by-equal, by-test, not-both}
+use Rattle.laws.proofs.CaseSplits.{by-order, by-equal, by-test, not-both}
+use Rattle.laws.proofs.Replaced.{replicate-entry}
 use Rattle.edzl.proofs.SumLaws.{sum-strict, sum-bound, sum-one-more, bit-true, bit-false, bit-monotone}
 use Rattle.edzl.proofs.Choice.{Beats, more-urgent, both-urgent, neither-urgent, LegalChoice}
 use Rattle.tasks.specs.Limits.{maxTasks}
@@ -22,7 +23,6 @@ use Rattle.machine.specs.Machine.{jobAt}
 use Rattle.machine.specs.Pick.{openCount, waiting, precedes, candidates, withPicked, pick, runnerCount, runners}
 use Rattle.machine.specs.declared.machine.Machine.{Machine}
 use Rattle.machine.proofs.State.{jobsOf}
-use Rattle.machine.proofs.ListLaws.{replicate-entry}
 
 -- Task i is one of the first k in precedence.
 abbrev isPicked : Machine → (k i : ℕ) → Bool

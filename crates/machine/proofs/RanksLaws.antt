@@ -7,7 +7,8 @@ use mathlib.Core.List.{List}
 use native.Mathlib.Omega.{arith}
 use lib.ListN.{getD, set, length, take, replicate, length-take, length-replicate}
 use lib.Seq.{getD-take, getD-set-same, getD-set-other}
-use Rattle.edzl.proofs.CaseSplits.{by-test}
+use Rattle.laws.proofs.CaseSplits.{by-test}
+use Rattle.laws.proofs.Replaced.{replicate-entry, length-replaced, replaced-at, replaced-set}
 use Rattle.tasks.specs.Limits.{maxTasks}
 use Rattle.job.specs.Search.{nextRunner}
 use Rattle.job.specs.Rank.{never, rank, waits, rankPrecedes, ranked}
@@ -18,7 +19,6 @@ use Rattle.machine.specs.Pick.{waiting, precedes, candidates, pick}
 use Rattle.machine.specs.Ranks.{rankAt, ranks}
 use Rattle.machine.specs.Sound.{sound}
 use Rattle.machine.specs.declared.machine.Machine.{Machine}
-use Rattle.machine.proofs.ListLaws.{replicate-entry, length-replaced, replaced-at, replaced-set}
 use Rattle.machine.proofs.SoundLaws.{sound-passes, sound-left}
 use Rattle.machine.proofs.PickLaws.{waits-open}
 

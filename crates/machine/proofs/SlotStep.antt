@@ -7,7 +7,9 @@ use lib.Dec.{eqb}
 use lib.ListN.{getD, length, replicate, length-replicate, List·getD-eq-default}
 use borrow.Author.Tests.{eqb-true, eqb-false, eq-eqb, not-true}
 use Rattle.edzl.specs.Sums.{bit}
-use Rattle.edzl.proofs.CaseSplits.{by-order, by-equal, not-both}
+use Rattle.laws.proofs.CaseSplits.{by-order, by-equal, not-both}
+use Rattle.laws.specs.Lists.{replaced}
+use Rattle.laws.proofs.Replaced.{replicate-entry, replaced-at, replaced-past, replaced-short}
 use Rattle.edzl.proofs.Invariant.{NoJob}
 use Rattle.edzl.proofs.Slot.{StillOpen, SlotEffect, Slotted}
 use Rattle.tasks.specs.Limits.{maxTasks}
@@ -16,13 +18,12 @@ use Rattle.job.specs.Job.{freshJob, closedJob}
 use Rattle.machine.specs.Machine.{jobAt}
 use Rattle.machine.specs.Pick.{runners}
 use Rattle.job.specs.Slot.{charged, aged, isFinished, isLate, settled}
-use Rattle.machine.specs.Slot.{passed, replaced, slotReport, afterSlot}
+use Rattle.machine.specs.Slot.{passed, slotReport, afterSlot}
 use Rattle.machine.specs.Sound.{sound}
 use Rattle.job.specs.declared.job.Job.{Job}
 use Rattle.machine.specs.declared.machine.Machine.{Machine}
 use Rattle.job.proofs.SlotLaws.{settled-gap, settled-closed, settled-finished, settled-late, settled-open, fresh-stays}
 use Rattle.machine.proofs.State.{jobsOf}
-use Rattle.machine.proofs.ListLaws.{replicate-entry, replaced-at, replaced-past, replaced-short}
 use Rattle.machine.proofs.SoundLaws.{sound-passes, sound-closed}
 use Rattle.machine.proofs.PickLaws.{runners-legal}
 

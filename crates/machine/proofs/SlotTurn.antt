@@ -13,11 +13,12 @@ use Rattle.job.specs.Job.{freshJob}
 use Rattle.machine.specs.Machine.{jobAt}
 use Rattle.machine.specs.Pick.{runners, runnerCount}
 use Rattle.job.specs.Slot.{charged, aged, isFinished, isLate, settled}
-use Rattle.machine.specs.Slot.{passed, replaced, slotReport, afterSlot}
+use Rattle.machine.specs.Slot.{passed, slotReport, afterSlot}
+use Rattle.laws.specs.Lists.{replaced}
+use Rattle.laws.proofs.Replaced.{replaced-past}
 use Rattle.job.specs.declared.job.Job.{Job}
 use Rattle.machine.specs.declared.machine.Machine.{Machine}
 use Rattle.machine.specs.declared.answer.Answer.{Answer}
-use Rattle.machine.proofs.ListLaws.{replaced-past}
 
 -- the machine m and two lists of the report after the first i tasks of m₀ have passed the slot
 pub record Turned (m₀ m : Machine) (finished late : List Bool) (i : ℕ) : Type 0 where

@@ -5,7 +5,7 @@ use Prim.Native.Nat.{ℕ, zero, suc, _<_}
 use mathlib.Core.Path.{_≡_}
 use mathlib.Core.Bool.{true, false, and-eq-true-iff}
 use native.Mathlib.Omega.{arith}
-use Rattle.edzl.proofs.CaseSplits.{by-equal, by-test, not-both}
+use Rattle.laws.proofs.CaseSplits.{by-equal, by-test, not-both}
 use Rattle.edzl.proofs.WellFormed.{WellFormed}
 use Rattle.edzl.proofs.Invariant.{NoJob}
 use Rattle.tasks.specs.declared.outcome.Outcome.the-variants.{Done}

@@ -7,7 +7,7 @@ use Rattle.tasks.specs.Limits.{maxTasks}
 use Rattle.job.specs.Rank.{never, rank}
 use Rattle.machine.specs.Machine.{jobAt}
 use Rattle.machine.specs.Pick.{waiting}
-use Rattle.machine.specs.Slot.{replaced}
+use Rattle.laws.specs.Lists.{replaced}
 use Rattle.machine.specs.declared.machine.Machine.{Machine}
 
 -- the rank of the task at an index, where some tasks are picked: its job's while it waits, and else `never`

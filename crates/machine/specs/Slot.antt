@@ -1,8 +1,8 @@
 -- A slot's four steps: document 01, "The slot machine".
-use Prim.Native.Nat.{ℕ, zero, suc}
+use Prim.Native.Nat.{ℕ}
 use mathlib.Core.Bool.{false}
-use mathlib.Core.List.{List}
-use lib.ListN.{getD, set, replicate}
+use lib.ListN.{getD, replicate}
+use Rattle.laws.specs.Lists.{replaced}
 use Rattle.tasks.specs.Limits.{maxTasks}
 use Rattle.job.specs.declared.job.Job.{Job}
 use Rattle.job.specs.Slot.{charged, aged, isFinished, isLate, settled}
@@ -14,11 +14,6 @@ use Rattle.machine.specs.declared.answer.Report.{Report}
 -- the job of the task at an index after steps 2 and 3
 unfoldable pub passed : Machine → ℕ → Job
 passed m i = aged (charged (getD (runners m) i false) (jobAt m i))
-
--- a list with its first n entries replaced by those of f; the others stay as they are
-unfoldable pub replaced : {A : Type 0} → (n : ℕ) → (ℕ → A) → List A → List A
-replaced zero f l = l
-replaced (suc n) f l = set (replaced n f l) n (f n)
 
 -- "a refused slot names no task and gives 0 runners"; every call that is no slot reports the same
 unfoldable pub noReport : Report

@@ -1,7 +1,7 @@
 -- What an outcome is where the call was carried out: `is-done`.
 use mathlib.Core.Path.{_≡_, refl}
 use mathlib.Core.Bool.{true, false}
-use Rattle.edzl.proofs.CaseSplits.{not-both}
+use Rattle.laws.proofs.CaseSplits.{not-both}
 use Rattle.tasks.specs.declared.outcome.Outcome.{Outcome}
 use Rattle.tasks.specs.declared.outcome.Outcome.the-variants.{Done, Refused}
 use Rattle.tasks.specs.Outcome.{isDone}

@@ -12,7 +12,7 @@ use Rattle.tasks.specs.Limits.{maxTasks}
 use Rattle.job.specs.Job.{freshJob}
 use Rattle.machine.specs.Machine.{jobAt}
 use Rattle.machine.specs.Pick.{openCount, pick}
-use Rattle.machine.specs.Slot.{replaced}
+use Rattle.laws.specs.Lists.{replaced}
 use Rattle.job.specs.Rank.{never}
 use Rattle.machine.specs.Ranks.{rankAt, ranks}
 use Rattle.machine.proofs.RanksLaws.{rank-unpicked}

@@ -1,4 +1,4 @@
--- The entries of the lists that a slot makes. Others cite: `replicate-entry`; and of `replaced` `length-replaced`, `replaced-at`, `replaced-past`,
+-- The entries of a list that a loop rewrites. Others cite: `replicate-entry`; and of `replaced` `length-replaced`, `replaced-at`, `replaced-past`,
 -- `replaced-short` and `replaced-set`.
 use Prim.Native.Nat.{ℕ, zero, suc, _≤_, _<_}
 use mathlib.Core.Path.{_≡_, refl, sym, _∙_}
@@ -6,8 +6,8 @@ use mathlib.Core.List.{List}
 use native.Mathlib.Omega.{arith}
 use lib.ListN.{getD, set, length, replicate, length-set, length-replicate, getD-replicate, List·getD-eq-default}
 use lib.Seq.{getD-set-same, getD-set-other, ext-getD}
-use Rattle.edzl.proofs.CaseSplits.{by-order, by-equal}
-use Rattle.machine.specs.Slot.{replaced}
+use Rattle.laws.proofs.CaseSplits.{by-order, by-equal}
+use Rattle.laws.specs.Lists.{replaced}
 
 -- In a list of one value, read with that value as the default, no index finds another.
 pub replicate-entry : {A : Type 0} (n i : ℕ) (a : A) → getD (replicate n a) i a ≡ a

@@ -1,8 +1,9 @@
 -- Going by cases, each as a function of what is to be done in either case.
 use Prim.Native.Nat.{ℕ, _≤_, _<_}
 use mathlib.Core.Path.{_≡_, refl, sym, subst}
-use mathlib.Core.Bool.{Bool, true, false}
+use mathlib.Core.Bool.{Bool, true, false, cond}
 use native.Mathlib.Nat.{lt-of-not-le}
+use native.Mathlib.Omega.{arith}
 use lib.Dec.{T}
 use native.Mathlib.Decide.{decLe, ℕ-discrete}
 
@@ -19,3 +20,12 @@ by-test false f g = g refl
 pub not-both : {A : Type 0} (t : Bool) → t ≡ true → t ≡ false → A
 not-both true p q = absurd (subst T q tt)
 not-both false p q = absurd (subst T (sym p) tt)
+
+-- what holds of either outcome of a test, given what the test came to
+pub by-cond : {A : Type 0} (P : A → Type 0) (t : Bool) {x y : A} → (t ≡ true → P x) → (t ≡ false → P y) → P (cond t x y)
+by-cond P true f g = f refl
+by-cond P false f g = g refl
+
+-- two constructors that were equal would make 0 equal to 1, which `cc` finds
+pub clash : {A : Type 0} → _≡_ {A = ℕ} 0 1 → A
+clash e = absurd (omega (arith, e))

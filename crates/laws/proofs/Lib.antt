@@ -1,0 +1,4 @@
+pub mod CaseSplits
+pub mod Booleans
+pub mod Replaced
+pub mod Lengths
