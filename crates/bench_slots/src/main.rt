@@ -1,17 +1,19 @@
 // Plays many slots of the table on standard input, on half as many cores as tasks, and prints a checksum: for benchmarks.
 use job::job::Job;
-use libc::STDIN_FILENO;
-use libc::STDOUT_FILENO;
 use machine::answer::Report;
 use machine::answer::mask;
 use machine::machine::Machine;
 use tasks::limits::MAX_TASKS;
 use tasks::limits::MAX_TEXT_LENGTH;
+use text::output::put_numbers;
 ghost use Prim.Native.Nat.{_≤_};
 ghost use Rattle.tasks.specs.Limits.{maxTasks};
 
 // One byte more than a text may have, so that a longer one is seen to be too long.
-const MOST: usize = MAX_TEXT_LENGTH + 1;
+const INPUT_ROOM: usize = MAX_TEXT_LENGTH + 1;
+
+// Room for a number of 64 bits and byte 10.
+const OUTPUT_ROOM: usize = 21;
 
 // The slots that are played.
 const SLOTS: u64 = 1_000_000;
@@ -83,8 +85,10 @@ fn played(text: &[u8]) -> u64 {
 }
 
 fn main() {
-    let mut space = [0u8; MOST];
-    let n = io::read_full(STDIN_FILENO, &mut space);
-    io::print_decimal(STDOUT_FILENO, played(&space[..n]));
-    io::write_all(STDOUT_FILENO, b"\n");
+    let mut input = [0u8; INPUT_ROOM];
+    let mut output = [0u8; OUTPUT_ROOM];
+    let n = stdio::read_input(&mut input);
+    let numbers = [played(&input[..n])];
+    let used = put_numbers(&mut output, 0, &numbers);
+    stdio::write_output(&output, used);
 }

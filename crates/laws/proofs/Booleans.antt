@@ -1,6 +1,7 @@
 -- Laws of Booleans that mathlib lacks.
 use mathlib.Core.Path.{_≡_, refl, sym}
-use mathlib.Core.Bool.{Bool, true, false, _&&_, _||_, not}
+use mathlib.Core.Bool.{Bool, true, false, cond, _&&_}
+use mir.Val.{boolByte}
 use Rattle.laws.proofs.CaseSplits.{not-both}
 
 pub and-left : (a b : Bool) → (a && b) ≡ true → a ≡ true
@@ -16,3 +17,8 @@ pub both-ways : (a b : Bool) → (a ≡ true → b ≡ true) → (b ≡ true →
 both-ways true b f g = sym (f refl)
 both-ways false true f g = g refl
 both-ways false false f g = refl
+
+-- a Boolean as a number, as the checker writes the code's cast
+pub bool-byte : (b : Bool) → boolByte b ≡ cond b 1 0
+bool-byte true = refl
+bool-byte false = refl

@@ -1,4 +1,4 @@
 pub mod CaseSplits
 pub mod Booleans
 pub mod Replaced
-pub mod Lengths
+pub mod Parts

@@ -1,100 +1,76 @@
--- What the names line is where its reader stops. l is the line, r what follows its first space, and t what follows the second.
+-- What the names line of a text s is where its reader stops: at a text that is not ended, at a line that has not three fields, and by the three
+-- fields; and what it says of a text: `names-read`, `names-broken`.
 use Prim.Native.Nat.{ℕ, _+_, _-_, _≤_, _<_}
 use native.Mathlib.Omega.{arith}
-use mathlib.Core.Path.{_≡_, refl, sym, ap, _∙_}
-use mathlib.Core.Bool.{Bool, true, false, cond, _&&_}
+use mathlib.Core.Path.{_≡_, sym, _∙_}
+use mathlib.Core.Bool.{true, false, cond}
 use mathlib.Core.List.{List}
-use lib.Dec.{eqb}
 use lib.ListN.{length, take, drop}
 use borrow.Author.Tests.{eq-eqb}
+use Rattle.laws.proofs.CaseSplits.{by-cond, clash}
+use Rattle.laws.proofs.Booleans.{and-left}
+use Rattle.laws.proofs.Parts.{from, past, from-drop}
+use Rattle.text.specs.Lines.{lineEnd, has, before, after, fieldCount}
+use Rattle.text.specs.Fields.{threeFields}
+use Rattle.text.specs.declared.fields.Fields.the-variants.{Other}
+use Rattle.text.proofs.Scan.{here, hasnt-of, cut}
+use Rattle.text.proofs.FieldLaws.{ThreeFields, no-fields}
 use Rattle.reader.specs.declared.names.Columns.{Columns}
 use Rattle.reader.specs.declared.names.NamesLine.the-variants.{Read, Broken}
-use Rattle.reader.specs.Lines.{lineEnd, space, has, before, after, field, fieldCount}
 use Rattle.reader.specs.Names.{columnsIn, columnsOf, eachNamed, threeNames, beginsWithNames}
-use Rattle.reader.specs.Parts.{namesIn, namesLine}
-use Rattle.reader.proofs.Scan.{here, part, cut}
-use Rattle.reader.proofs.Fields.{not-one, not-two, not-four, Three, three}
+use Rattle.reader.specs.Parts.{namesLine}
 
--- a line that has not three fields
-broken : (l : List ℕ) (n : ℕ) → eqb (fieldCount l) 3 ≡ false → Broken ≡ namesIn l n
-unfolding namesIn threeNames
-broken l n e = rw e
+-- the byte 10 was looked for, and r bytes stand before it
+module _ (s : List ℕ) (r : ℕ) (e : r ≡ length (before lineEnd s)) where
+  pub not-ended : length s ≤ r → Broken ≡ namesLine s
+  unfolding namesLine beginsWithNames
+  not-ended h = rw (hasnt-of lineEnd s (rw e at h))
 
-pub one-field : (l : List ℕ) (n : ℕ) → has space l ≡ false → Broken ≡ namesIn l n
-one-field l n h = broken l n (not-one l h)
+  -- it is there, and so the line is
+  module _ (h : r < length s) where
+    by-line : namesLine s ≡ cond (threeNames (take r s)) (Read (columnsOf (take r s)) (r + 1)) Broken
+    unfolding namesLine beginsWithNames
+    by-line = let k = cut lineEnd s r e h in rw (k .is, ← e, ← k .front)
 
-pub two-fields : (l r : List ℕ) (n : ℕ) → has space l ≡ true → r ≡ after space l → has space r ≡ false → Broken ≡ namesIn l n
-two-fields l r n h e h₁ = broken l n (not-two l h (rw e at h₁))
+    pub not-three : threeFields (take r s) ≡ Other → Broken ≡ namesLine s
+    unfolding threeNames
+    not-three o = sym (by-line ∙ rw (no-fields (take r s) o))
 
--- what follows the byte at a place, as the code has it
-abbrev pub past : List ℕ → ℕ → List ℕ
-past s a = take (length s - (a + 1)) (drop (a + 1) s)
+    -- three fields: whether each name is one of them decides
+    module _
+        (a b : ℕ) (p : ThreeFields (take r s) a b) (k : Columns)
+        (w : k ≡ columnsIn (take a (take r s)) (take (b - (a + 1)) (drop (a + 1) (take r s))) (past (take r s) b)) where
+      by-names : namesLine s ≡ cond (eachNamed k) (Read k (r + 1)) Broken
+      unfolding threeNames columnsOf
+      by-names = by-line ∙ rw (eq-eqb (fieldCount (take r s)) 3 (p .count), w, p .first, p .second, p .third)
 
--- a line l with its first space at a, and the next one at b of what follows
-module _
-    (l : List ℕ) (n a b : ℕ)
-    (e : a ≡ length (before space l)) (h : a < length l)
-    (e₁ : b ≡ length (before space (past l a))) (h₁ : b < length (past l a)) where
-  second : has space (after space l) ≡ true
-  second = rw (cut space l a e h .rest) at (cut space (past l a) b e₁ h₁ .is)
+      pub named : eachNamed k ≡ true → Read k (r + 1) ≡ namesLine s
+      named t = sym (by-names ∙ rw t)
 
-  third : past (past l a) b ≡ after space (after space l)
-  third = cut space (past l a) b e₁ h₁ .rest ∙ ap (after space) (cut space l a e h .rest)
-
-  pub four-fields : has space (past (past l a) b) ≡ true → Broken ≡ namesIn l n
-  four-fields q = broken l n (not-four l (cut space l a e h .is) second (rw third at q))
-
-  -- three fields: whether each name is one of them decides
-  module _
-      (q : has space (past (past l a) b) ≡ false)
-      (k : Columns) (w : k ≡ columnsIn (take a l) (take b (past l a)) (past (past l a) b)) where
-    parts : Three l
-    parts = three l (cut space l a e h .is) second (rw third at q)
-
-    columns : columnsOf l ≡ k
-    unfolding columnsOf field
-    columns =
-        rw
-        (w, parts .third, third, cut space l a e h .front, cut space (past l a) b e₁ h₁ .front, cut space l a e h .rest)
-
-    names : namesIn l n ≡ cond (eachNamed k) (Read k n) Broken
-    unfolding namesIn threeNames
-    names = rw (eq-eqb (fieldCount l) 3 (parts .count), columns)
-
-    pub named : eachNamed k ≡ true → Read k n ≡ namesIn l n
-    named t = sym (names ∙ rw t)
-
-    pub unnamed : eachNamed k ≡ false → Broken ≡ namesIn l n
-    unnamed t = sym (names ∙ rw t)
+      pub unnamed : eachNamed k ≡ false → Broken ≡ namesLine s
+      unnamed t = sym (by-names ∙ rw t)
 
 -- a names line that was read, and none
 pub record NamesRead (s : List ℕ) (k : Columns) (n : ℕ) : Type 0 where
   pub is : beginsWithNames s ≡ true
   pub columns : k ≡ columnsOf (before lineEnd s)
   pub within : n ≤ length s
-  pub rest : take (length s - n) (drop n s) ≡ after lineEnd s
+  pub rest : from s n ≡ after lineEnd s
+
+ended : (s : List ℕ) → beginsWithNames s ≡ true → has lineEnd s ≡ true
+unfolding beginsWithNames
+ended s t = and-left (has lineEnd s) (threeNames (before lineEnd s)) t
 
 pub names-read : (s : List ℕ) (k : Columns) (n : ℕ) → namesLine s ≡ Read k n → NamesRead s k n
-unfolding namesLine namesIn beginsWithNames
-names-read s k n e = go (has lineEnd s) (threeNames (before lineEnd s)) refl refl e
-  where
-    go :
-        (t u : Bool) → has lineEnd s ≡ t → threeNames (before lineEnd s) ≡ u
-        → cond t (cond u (Read (columnsOf (before lineEnd s)) (length (before lineEnd s) + 1)) Broken) Broken ≡ Read k n → NamesRead s k n
-    go true true p q e =
-        let c : n ≡ length (before lineEnd s) + 1 = cc in
-        let l = here lineEnd s p in
-        record { is = rw (p, q); columns = cc; within = omega (arith, l .within); rest = part s n ∙ rw c (l .rest) }
-    go true false p q e = let z : _≡_ {A = ℕ} 0 1 = cc in absurd (omega arith)
-    go false u p q e = let z : _≡_ {A = ℕ} 0 1 = cc in absurd (omega arith)
+unfolding namesLine
+names-read s k n =
+    by-cond (λ r. r ≡ Read k n → NamesRead s k n) (beginsWithNames s)
+    (λ t e.
+    let c : n ≡ length (before lineEnd s) + 1 = cc in
+    let l = here lineEnd s (ended s t) in
+    record { is = t; columns = cc; within = omega (arith, l .within); rest = from-drop s n ∙ rw c (l .rest) })
+    (λ t e. clash cc)
 
 pub names-broken : (s : List ℕ) → namesLine s ≡ Broken → beginsWithNames s ≡ false
-unfolding namesLine namesIn beginsWithNames
-names-broken s e = go (has lineEnd s) (threeNames (before lineEnd s)) e
-  where
-    go :
-        (t u : Bool) → cond t (cond u (Read (columnsOf (before lineEnd s)) (length (before lineEnd s) + 1)) Broken) Broken ≡ Broken
-        → (t && u) ≡ false
-    go true true e = let z : _≡_ {A = ℕ} 0 1 = cc in absurd (omega arith)
-    go true false e = refl
-    go false u e = refl
+unfolding namesLine
+names-broken s = by-cond (λ r. r ≡ Broken → beginsWithNames s ≡ false) (beginsWithNames s) (λ t e. clash cc) (λ t e. t)

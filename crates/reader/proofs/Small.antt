@@ -1,10 +1,12 @@
 -- A reading is refused by a number of at most 6: `reading-below`.
 use Prim.Native.Nat.{ℕ, zero, suc}
 use native.Mathlib.Omega.{arith}
-use mathlib.Core.Bool.{Bool, true, false, cond, not}
+use mathlib.Core.Bool.{Bool, cond, not}
 use mathlib.Core.List.{List}
 use lib.Dec.{eqb, ltb}
 use lib.ListN.{length}
+use Rattle.laws.proofs.CaseSplits.{by-cond}
+use Rattle.text.specs.Lines.{lineEnd, before, after}
 use Rattle.tasks.specs.declared.table.Table.{Table}
 use Rattle.tasks.specs.Limits.{maxTasks, maxTextLength}
 use Rattle.tasks.specs.Task.{inRange}
@@ -12,13 +14,11 @@ use Rattle.tasks.specs.Table.{emptyTable, withTask}
 use Rattle.tasks.proofs.Small.{Below, below-done, below-refused}
 use Rattle.reader.specs.declared.names.Columns.{Columns}
 use Rattle.reader.specs.declared.Reading.{Reading}
-use Rattle.reader.specs.Lines.{lineEnd, before, after}
 use Rattle.reader.specs.Names.{columnsOf, beginsWithNames}
 use Rattle.reader.specs.Reading.{refused, beginsWithValues, taskOf, ended, isEmpty, valueLines, reading}
 
 either : (t : Bool) (x y : Reading) → Below 6 (x .outcome) → Below 6 (y .outcome) → Below 6 (cond t x y .outcome)
-either true x y f g = f
-either false x y f g = g
+either t x y f g = by-cond (λ (r : Reading). Below 6 (r .outcome)) t (λ e. f) (λ e. g)
 
 ended-below : (t : Table) → Below 6 (ended t .outcome)
 unfolding ended refused

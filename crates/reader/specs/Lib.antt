@@ -1,4 +1,3 @@
-pub mod Lines
 pub mod Value
 pub mod Names
 pub mod Reading

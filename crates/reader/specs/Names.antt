@@ -1,9 +1,10 @@
 -- The names line: document 01, "The table as text".
 use Prim.Native.Nat.{ℕ}
 use mathlib.Core.List.{List, [], _∷_}
-use mathlib.Core.Bool.{Bool, true, false, cond, _&&_}
+use mathlib.Core.Bool.{Bool, cond, _&&_}
 use lib.Dec.{eqb, ltb}
-use Rattle.reader.specs.Lines.{lineEnd, has, before, field, fieldCount}
+use Rattle.text.specs.Lines.{lineEnd, has, before, field, fieldCount}
+use Rattle.text.specs.Words.{sameBytes}
 use Rattle.reader.specs.declared.names.Columns.{Columns}
 
 -- the bytes of "PERIOD": "First a line with the names PERIOD, BUDGET and DEADLINE in any order"
@@ -17,13 +18,6 @@ budgetName = 66 ∷ 85 ∷ 68 ∷ 71 ∷ 69 ∷ 84 ∷ []
 -- the bytes of "DEADLINE"
 abbrev pub deadlineName : List ℕ
 deadlineName = 68 ∷ 69 ∷ 65 ∷ 68 ∷ 76 ∷ 73 ∷ 78 ∷ 69 ∷ []
-
--- whether two texts have the same bytes
-unfoldable pub sameBytes : List ℕ → List ℕ → Bool
-sameBytes [] [] = true
-sameBytes [] (y ∷ t) = false
-sameBytes (x ∷ s) [] = false
-sameBytes (x ∷ s) (y ∷ t) = eqb x y && sameBytes s t
 
 -- which of three fields, from 0, is the name; 3 where none is
 unfoldable pub columnIn : List ℕ → List ℕ → List ℕ → List ℕ → ℕ

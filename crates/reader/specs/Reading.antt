@@ -13,8 +13,9 @@ use Rattle.tasks.specs.Task.{inRange}
 use Rattle.tasks.specs.Table.{emptyTable, withTask}
 use Rattle.reader.specs.declared.names.Columns.{Columns}
 use Rattle.reader.specs.declared.Reading.{Reading}
-use Rattle.reader.specs.Lines.{lineEnd, has, before, after, field, fieldCount}
-use Rattle.reader.specs.Value.{isValue, decimal}
+use Rattle.text.specs.Lines.{lineEnd, has, before, after, field, fieldCount}
+use Rattle.text.specs.Number.{decimal}
+use Rattle.reader.specs.Value.{isValue}
 use Rattle.reader.specs.Names.{columnsOf, beginsWithNames}
 
 -- "A refused reading hands back a table of zero tasks with all its numbers 0"

@@ -13,7 +13,6 @@ use tasks::refusals::TEXT_TOO_LONG;
 use tasks::refusals::TOO_MANY_TASKS;
 use tasks::table::Table;
 
-pub mod bytes;
 mod names;
 mod values;
 

@@ -1,8 +1,10 @@
 // The names line: which column has the periods, the budgets and the deadlines.
-use crate::bytes;
+use text::bytes;
+use text::fields;
+use text::fields::Fields;
 ghost use mathlib.Core.Path.{_≡_};
 ghost use Rattle.reader.specs.Names.{columnIn, columnsIn, eachNamed};
-ghost use Rattle.reader.specs.Parts.{namesIn, namesLine};
+ghost use Rattle.reader.specs.Parts.{namesLine};
 
 // Where each value stands in a line of values, from 0.
 pub struct Columns {
@@ -62,31 +64,6 @@ fn columns_in(first: &[u8], second: &[u8], third: &[u8]) -> Columns
     }
 }
 
-// The columns of a names line that is `length` bytes long with its byte 10.
-fn names_in(line: &[u8], length: usize) -> NamesLine
-    ensures { λ r. ⌜ r ≡ namesIn (now (line .entry)) length ⌝ }
-{
-    let a = bytes::find(line, b' ');
-    if line.len() <= a {
-        return NamesLine::Broken;
-    }
-    let rest = &line[a + 1..];
-    let b = bytes::find(rest, b' ');
-    if rest.len() <= b {
-        return NamesLine::Broken;
-    }
-    let third = &rest[b + 1..];
-    if bytes::find(third, b' ') < third.len() {
-        return NamesLine::Broken;
-    }
-    let columns = columns_in(&line[..a], &rest[..b], third);
-    if columns.complete() {
-        NamesLine::Read { columns, length }
-    } else {
-        NamesLine::Broken
-    }
-}
-
 // The names line that a text begins with.
 pub fn names_line(text: &[u8]) -> NamesLine
     ensures { λ r. ⌜ r ≡ namesLine (now (text .entry)) ⌝ }
@@ -95,5 +72,21 @@ pub fn names_line(text: &[u8]) -> NamesLine
     if text.len() <= end {
         return NamesLine::Broken;
     }
-    names_in(&text[..end], end + 1)
+    let line = &text[..end];
+    let Fields::Three { first, second } = fields::three_fields(line) else {
+        return NamesLine::Broken;
+    };
+    let columns = columns_in(
+        &line[..first],
+        &line[first + 1..second],
+        &line[second + 1..],
+    );
+    if columns.complete() {
+        NamesLine::Read {
+            columns,
+            length: end + 1,
+        }
+    } else {
+        NamesLine::Broken
+    }
 }

@@ -1,7 +1,4 @@
-pub mod WordLaws
-pub mod NumberLaws
-pub mod DigitLaws
-pub mod LineLaws
+pub mod CallsStart
 pub mod CallLaws
 pub mod OutputLaws
 pub mod Playing

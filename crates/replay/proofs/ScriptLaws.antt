@@ -5,12 +5,13 @@ use mathlib.Core.Bool.{false}
 use mathlib.Core.List.{List}
 use borrow.Author.Tests.{le-ltb}
 use lib.ListN.{length, take}
-use Rattle.reader.specs.Lines.{lineEnd, has, before}
-use Rattle.reader.proofs.Scan.{cut, hasnt-of}
-use Rattle.reader.proofs.NamesLine.{past}
-use Rattle.replay.specs.declared.numbers.Number.the-variants.{Read, Broken}
+use Rattle.laws.proofs.Parts.{past}
+use Rattle.text.specs.Lines.{lineEnd, has, before}
+use Rattle.text.specs.Number.{numberAfter}
+use Rattle.text.specs.declared.number.Number.the-variants.{Read, Broken}
+use Rattle.text.proofs.Scan.{cut, hasnt-of}
 use Rattle.replay.specs.Words.{coresWord}
-use Rattle.replay.specs.Numbers.{numberAfter}
+use Rattle.replay.specs.Numbers.{maxDigits, maxNumber}
 use Rattle.replay.specs.Calls.{callsStart}
 use Rattle.replay.specs.Output.{badLine}
 use Rattle.replay.specs.Script.{printedAfterCores, printedAfterFirst, printed}
@@ -21,14 +22,14 @@ module _ (s : List ℕ) (h : length s ≤ 65536) (k : ℕ) (e : k ≡ length (be
   first-unended l = let z : has lineEnd s ≡ false = hasnt-of lineEnd s (rw e at l) in rw (le-ltb 65536 (length s) h, z)
 
   module _ (l : k < length s) where
-    pub first-broken : numberAfter coresWord (take k s) ≡ Broken → printed s ≡ badLine 1
+    pub first-broken : numberAfter maxDigits maxNumber coresWord (take k s) ≡ Broken → printed s ≡ badLine 1
     unfolding printed printedAfterFirst
     first-broken b =
         let d = cut lineEnd s k e l in
         rw (le-ltb 65536 (length s) h, d .is, ← d .front, b)
 
     pub first-read :
-        (cores : ℕ) → numberAfter coresWord (take k s) ≡ Read cores → printed s ≡ printedAfterCores (callsStart (past s k)) cores (past s k)
+        (cores : ℕ) → numberAfter maxDigits maxNumber coresWord (take k s) ≡ Read cores → printed s ≡ printedAfterCores (callsStart (past s k)) cores (past s k)
     unfolding printed printedAfterFirst
     first-read cores b =
         let d = cut lineEnd s k e l in

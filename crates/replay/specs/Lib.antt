@@ -1,6 +1,5 @@
 pub mod Words
 pub mod Numbers
-pub mod Lines
 pub mod Calls
 pub mod Output
 pub mod Script

@@ -2,9 +2,8 @@
 use Prim.Native.Nat.{ℕ, _≤_}
 use mathlib.Core.List.{List, [], _∷_, _++_}
 use lib.ListN.{length}
-use Rattle.text.specs.Number.{decimalText}
-use Rattle.text.specs.Output.{Grown}
-use Rattle.reader.specs.Lines.{lineEnd, space}
+use Rattle.text.specs.Lines.{lineEnd}
+use Rattle.text.specs.Output.{Put, numbersLine, refusedLine}
 use Rattle.tasks.specs.declared.outcome.Outcome.{Outcome}
 use Rattle.tasks.specs.declared.outcome.Outcome.the-variants.{Done, Refused}
 use Rattle.machine.specs.declared.call.Call.{Call}
@@ -12,21 +11,15 @@ use Rattle.machine.specs.declared.call.Call.the-variants.{Release, Finish, Slot
 use Rattle.machine.specs.declared.answer.Answer.{Answer}
 use Rattle.machine.specs.declared.answer.Report.{Report}
 use Rattle.machine.specs.Mask.{mask}
-use Rattle.replay.specs.Words.{doneWord, refusedWord, badLineWord}
-
--- "`REFUSED n` for a refused call", table, m or script
-unfoldable pub refusedLine : ℕ → List ℕ
-refusedLine n = refusedWord ++ decimalText n ++ lineEnd ∷ []
+use Rattle.replay.specs.Words.{doneWord, badLineWord}
 
 -- "A line that is no call prints `BAD LINE n`", and so does a line that is not the `CORES m` or the `CALLS` that it must be
 unfoldable pub badLine : ℕ → List ℕ
-badLine n = badLineWord ++ decimalText n ++ lineEnd ∷ []
+badLine n = badLineWord ++ numbersLine (n ∷ [])
 
 -- "`RAN FINISHED LATE RUNNERS` as four numbers .. (the first three as sums of 2 to the power task number − 1)"
 unfoldable pub reportLine : Report → List ℕ
-reportLine r =
-    decimalText (mask (r .ran)) ++ space ∷ decimalText (mask (r .finished)) ++ space ∷ decimalText (mask (r .late))
-    ++ space ∷ decimalText (r .runners) ++ lineEnd ∷ []
+reportLine r = numbersLine (mask (r .ran) ∷ mask (r .finished) ∷ mask (r .late) ∷ r .runners ∷ [])
 
 -- "`DONE` for an accepted release, finish or join", and the report "for an accepted slot"
 unfoldable pub acceptedLine : Call → Report → List ℕ
@@ -35,7 +28,7 @@ acceptedLine (Finish i) r = doneWord ++ lineEnd ∷ []
 acceptedLine Slot r = reportLine r
 acceptedLine (Join t) r = doneWord ++ lineEnd ∷ []
 
--- the line of a call that had an outcome and a report
+-- the line of a call that had an outcome and a report: "`REFUSED n` for a refused call"
 unfoldable pub outcomeLine : Outcome → Call → Report → List ℕ
 outcomeLine Done call r = acceptedLine call r
 outcomeLine (Refused number place) call r = refusedLine number
@@ -52,7 +45,11 @@ refusalRoom = 32
 abbrev pub answerRoom : ℕ
 answerRoom = 44
 
--- a line was put after the first `used` bytes of an array, and has at most so many bytes
+-- the most bytes of the output for each byte of the calls: the line of a call has at least 5 bytes, and its answer's at most 44
+abbrev pub callRoom : ℕ
+callRoom = 9
+
+-- a text of at most so many bytes was put after the first `used` bytes of an array
 pub record Line (most : ℕ) (before : List ℕ) (used : ℕ) (text after : List ℕ) (r : ℕ) : Type 0 where
-  pub grown : Grown before used text after r
+  pub put : Put before used text after r
   pub few : length text ≤ most

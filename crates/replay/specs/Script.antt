@@ -4,7 +4,11 @@ use mathlib.Core.List.{List, [], _∷_, _++_}
 use mathlib.Core.Bool.{cond}
 use lib.Dec.{ltb}
 use lib.ListN.{length, take, drop}
-use Rattle.reader.specs.Lines.{lineEnd, has, before, after}
+use Rattle.text.specs.Lines.{lineEnd, has, before, after, lines, unended}
+use Rattle.text.specs.Number.{numberAfter}
+use Rattle.text.specs.Output.{refusedLine}
+use Rattle.text.specs.declared.number.Number.{Number}
+use Rattle.text.specs.declared.number.Number.the-variants as Number
 use Rattle.reader.specs.Reading.{isEmpty, reading}
 use Rattle.tasks.specs.Refusals.{textTooLong}
 use Rattle.tasks.specs.declared.outcome.Outcome.{Outcome}
@@ -14,12 +18,9 @@ use Rattle.machine.specs.declared.machine.Machine.{Machine}
 use Rattle.machine.specs.declared.call.Call.{Call}
 use Rattle.machine.specs.declared.answer.Answer.{Answer}
 use Rattle.replay.specs.Words.{coresWord}
-use Rattle.replay.specs.Numbers.{numberAfter}
-use Rattle.replay.specs.Lines.{lines, unended}
+use Rattle.replay.specs.Numbers.{maxDigits, maxNumber}
 use Rattle.replay.specs.Calls.{callOf, callsStart}
-use Rattle.replay.specs.Output.{refusedLine, badLine, answerLine}
-use Rattle.replay.specs.declared.numbers.Number.{Number}
-use Rattle.replay.specs.declared.numbers.Number.the-variants as Number
+use Rattle.replay.specs.Output.{badLine, answerLine}
 use Rattle.replay.specs.declared.calls.CallLine.{CallLine}
 use Rattle.replay.specs.declared.calls.CallLine.the-variants as Line
 use Rattle.replay.specs.declared.calls.CallsStart.{CallsStart}
@@ -70,4 +71,8 @@ printedAfterFirst Number.Broken s = badLine 1
 unfoldable pub printed : List ℕ → List ℕ
 printed s =
     cond (ltb maxScriptLength (length s)) (refusedLine textTooLong)
-    (cond (has lineEnd s) (printedAfterFirst (numberAfter coresWord (before lineEnd s)) (after lineEnd s)) (badLine 1))
+    (cond (has lineEnd s) (printedAfterFirst (numberAfter maxDigits maxNumber coresWord (before lineEnd s)) (after lineEnd s)) (badLine 1))
+
+-- the room that an array needs for it: 9 bytes for each byte of a script, and 32 more
+abbrev pub room : ℕ
+room = 589856

@@ -1,14 +1,6 @@
--- The words of a script and of its answers, and what a text begins with.
+-- The words of a script and of its answers.
 use Prim.Native.Nat.{ℕ}
 use mathlib.Core.List.{List, [], _∷_}
-use mathlib.Core.Bool.{Bool, true, false, _&&_}
-use lib.Dec.{eqb}
-
--- whether the text begins with the word, given first
-unfoldable pub beginsWith : List ℕ → List ℕ → Bool
-beginsWith [] s = true
-beginsWith (b ∷ w) [] = false
-beginsWith (b ∷ w) (x ∷ s) = eqb x b && beginsWith w s
 
 -- "CORES" with its space, before m
 abbrev pub coresWord : List ℕ
@@ -37,10 +29,6 @@ callsWord = 67 ∷ 65 ∷ 76 ∷ 76 ∷ 83 ∷ []
 -- "DONE", a line of its own
 abbrev pub doneWord : List ℕ
 doneWord = 68 ∷ 79 ∷ 78 ∷ 69 ∷ []
-
--- "REFUSED" with its space, before n
-abbrev pub refusedWord : List ℕ
-refusedWord = 82 ∷ 69 ∷ 70 ∷ 85 ∷ 83 ∷ 69 ∷ 68 ∷ 32 ∷ []
 
 -- "BAD LINE" with its space, before n
 abbrev pub badLineWord : List ℕ

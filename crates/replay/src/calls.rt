@@ -1,14 +1,19 @@
 // The lines of a script after its line of cores: where its calls begin, and the call of a line. A line stands here without its byte 10.
-use crate::numbers;
-use crate::numbers::Number;
-use crate::words;
 use machine::call::Call;
-use reader::bytes;
 use tasks::task::Task;
-ghost use Prim.Native.Nat.{_≤_};
+use text::bytes;
+use text::fields;
+use text::fields::Numbers;
+use text::number;
+use text::number::Number;
 ghost use mathlib.Core.Path.{_≡_};
-ghost use lib.ListN.{length};
-ghost use Rattle.replay.specs.Calls.{joinOf, callOf, callsStart};
+ghost use Rattle.replay.specs.Calls.{callOf, callsStart};
+
+// The longest number of a script, in digits.
+pub const MAX_DIGITS: usize = 10;
+
+// The largest number of a script.
+pub const MAX_NUMBER: u32 = 4_294_967_295;
 
 pub enum CallLine {
     Read(Call),
@@ -28,7 +33,6 @@ pub enum CallsStart {
 
 // Where the line CALLS stands in the text after the script's first line.
 pub fn find_calls(text: &[u8]) -> CallsStart
-    requires { ⌜ length (now text) ≤ 65536 ⌝ }
     ensures { λ r. ⌜ r ≡ callsStart (now (text .entry)) ⌝ }
 {
     let mut at: usize = 0;
@@ -53,35 +57,6 @@ pub fn find_calls(text: &[u8]) -> CallsStart
     CallsStart::Missing(line)
 }
 
-// The join whose three numbers, with a space between them, are these fields.
-fn join_fields(fields: &[u8]) -> CallLine
-    ensures { λ r. ⌜ r ≡ joinOf (now (fields .entry)) ⌝ }
-{
-    let a = bytes::find(fields, b' ');
-    if fields.len() <= a {
-        return CallLine::Bad;
-    }
-    let rest = &fields[a + 1..];
-    let b = bytes::find(rest, b' ');
-    if rest.len() <= b {
-        return CallLine::Bad;
-    }
-    let Number::Read(period) = numbers::number_of(&fields[..a]) else {
-        return CallLine::Bad;
-    };
-    let Number::Read(budget) = numbers::number_of(&rest[..b]) else {
-        return CallLine::Bad;
-    };
-    let Number::Read(deadline) = numbers::number_of(&rest[b + 1..]) else {
-        return CallLine::Bad;
-    };
-    CallLine::Read(Call::Join(Task {
-        period,
-        budget,
-        deadline,
-    }))
-}
-
 // The call of a line.
 pub fn call_line(line: &[u8]) -> CallLine
     ensures { λ r. ⌜ r ≡ callOf (now (line .entry)) ⌝ }
@@ -89,14 +64,25 @@ pub fn call_line(line: &[u8]) -> CallLine
     if bytes::same(line, b"SLOT") {
         return CallLine::Read(Call::Slot);
     }
-    if let Number::Read(number) = numbers::numbered_line(line, b"RELEASE ") {
+    if let Number::Read(number) = number::number_after(line, b"RELEASE ", MAX_DIGITS, MAX_NUMBER) {
         return CallLine::Read(Call::Release(number));
     }
-    if let Number::Read(number) = numbers::numbered_line(line, b"FINISH ") {
+    if let Number::Read(number) = number::number_after(line, b"FINISH ", MAX_DIGITS, MAX_NUMBER) {
         return CallLine::Read(Call::Finish(number));
     }
-    if words::begins_with(line, b"JOIN ") {
-        return join_fields(&line[5..]);
+    if !bytes::begins_with(line, b"JOIN ") {
+        return CallLine::Bad;
     }
-    CallLine::Bad
+    let Numbers::Three(period, budget, deadline) = fields::three_numbers(
+        &line[5..],
+        MAX_DIGITS,
+        MAX_NUMBER,
+    ) else {
+        return CallLine::Bad;
+    };
+    CallLine::Read(Call::Join(Task {
+        period,
+        budget,
+        deadline,
+    }))
 }

@@ -1,24 +1,25 @@
 // Replays a script: starts a machine on its table and cores, and prints a line for each of its calls.
 use crate::calls::CallLine;
 use crate::calls::CallsStart;
-use crate::numbers::Number;
-use libc::STDIN_FILENO;
-use libc::STDOUT_FILENO;
+use crate::calls::MAX_DIGITS;
+use crate::calls::MAX_NUMBER;
 use machine::machine::Machine;
-use reader::bytes;
 use tasks::outcome::Outcome;
 use tasks::refusals::TEXT_TOO_LONG;
+use text::bytes;
+use text::number;
+use text::number::Number;
+use text::output::put_refused;
 
 mod calls;
-mod numbers;
 mod output;
-mod words;
 
-ghost use Prim.Native.Nat.{_≤_};
+ghost use Prim.Native.Nat.{_+_, _*_, _≤_};
 ghost use lib.ListN.{length};
-ghost use Rattle.replay.specs.Lines.{lines, unended};
+ghost use Rattle.text.specs.Lines.{lines, unended};
 ghost use Rattle.text.specs.Output.{Holds};
-ghost use Rattle.replay.specs.Script.{answers, printedFor, printed};
+ghost use Rattle.replay.specs.Output.{Line, refusalRoom, callRoom};
+ghost use Rattle.replay.specs.Script.{answers, printedFor, printed, room};
 
 // The most bytes that a script has.
 const MAX_SCRIPT_LENGTH: usize = 65_536;
@@ -26,13 +27,13 @@ const MAX_SCRIPT_LENGTH: usize = 65_536;
 // One more byte than a script may have, so that a longer one is seen to be too long.
 const INPUT_ROOM: usize = 65_537;
 
-// 9 bytes for each byte of a script, and 32 more: a call's line has at least 5 bytes, and its answer's at most 44.
+// In contracts `room`.
 const OUTPUT_ROOM: usize = 589_856;
 
 // Puts the answers to the calls of a text, the first of which is on the line `first` of the script.
 fn play(text: &[u8], mut machine: Machine, first: usize, output: &mut [u8]) -> usize
-    requires { ⌜ (length (now text) ≤ 65536) × (first ≤ 65539) × (589856 ≤ length (now output)) ⌝ }
-    ensures { λ r. ⌜ Holds (answers machine first (lines (now (text .entry))) (unended (now (text .entry)))) (now (output .exit)) r ⌝ }
+    requires { ⌜ first ≤ 65539 ⌝ }
+    ensures { λ r. ⌜ Line (callRoom * length (now (text .entry)) + refusalRoom) (now (output .entry)) 0 (answers machine first (lines (now (text .entry))) (unended (now (text .entry)))) (now (output .exit)) r ⌝ }
 {
     let mut rest = text;
     let mut line = first;
@@ -56,19 +57,19 @@ fn play(text: &[u8], mut machine: Machine, first: usize, output: &mut [u8]) -> u
 
 // Puts the answers to the calls of a text, or the refusal of the table's text or of the cores.
 fn run(text: &[u8], cores: u32, calls: &[u8], first: usize, output: &mut [u8]) -> usize
-    requires { ⌜ (length (now calls) ≤ 65536) × (first ≤ 65539) × (589856 ≤ length (now output)) ⌝ }
-    ensures { λ r. ⌜ Holds (printedFor (now (text .entry)) cores first (now (calls .entry))) (now (output .exit)) r ⌝ }
+    requires { ⌜ first ≤ 65539 ⌝ }
+    ensures { λ r. ⌜ Line (callRoom * length (now (calls .entry)) + refusalRoom) (now (output .entry)) 0 (printedFor (now (text .entry)) cores first (now (calls .entry))) (now (output .exit)) r ⌝ }
 {
     let reading = reader::read(text);
     let outcome = reading.outcome;
     if let Outcome::Refused { number, place: _ } = outcome {
-        return output::put_refused(output, 0, number);
+        return put_refused(output, 0, number);
     }
     let table = reading.table;
     let started = Machine::start(table, cores);
     let outcome = started.outcome;
     if let Outcome::Refused { number, place: _ } = outcome {
-        return output::put_refused(output, 0, number);
+        return put_refused(output, 0, number);
     }
     let machine = started.machine;
     play(calls, machine, first, output)
@@ -76,17 +77,22 @@ fn run(text: &[u8], cores: u32, calls: &[u8], first: usize, output: &mut [u8]) -
 
 // Puts what is printed for a script at the start of the output: how many bytes it is.
 fn replay(script: &[u8], output: &mut [u8]) -> usize
-    requires { ⌜ 589856 ≤ length (now output) ⌝ }
+    requires { ⌜ room ≤ length (now output) ⌝ }
     ensures { λ r. ⌜ Holds (printed (now (script .entry))) (now (output .exit)) r ⌝ }
 {
     if MAX_SCRIPT_LENGTH < script.len() {
-        return output::put_refused(output, 0, TEXT_TOO_LONG);
+        return put_refused(output, 0, TEXT_TOO_LONG);
     }
     let length = bytes::find(script, b'\n');
     if script.len() <= length {
         return output::put_bad_line(output, 0, 1);
     }
-    let Number::Read(cores) = numbers::numbered_line(&script[..length], b"CORES ") else {
+    let Number::Read(cores) = number::number_after(
+        &script[..length],
+        b"CORES ",
+        MAX_DIGITS,
+        MAX_NUMBER,
+    ) else {
         return output::put_bad_line(output, 0, 1);
     };
     let text = &script[length + 1..];
@@ -102,9 +108,9 @@ fn replay(script: &[u8], output: &mut [u8]) -> usize
 fn print(space: [u8; INPUT_ROOM], room: [u8; OUTPUT_ROOM]) {
     let mut script = space;
     let mut output = room;
-    let n = io::read_full(STDIN_FILENO, &mut script);
+    let n = stdio::read_input(&mut script);
     let used = replay(&script[..n], &mut output);
-    io::write_all(STDOUT_FILENO, &output[..used]);
+    stdio::write_output(&output, used);
 }
 
 fn main() {

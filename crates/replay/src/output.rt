@@ -5,23 +5,17 @@ use machine::answer::mask;
 use machine::call::Call;
 use tasks::outcome::Outcome;
 use text::output::put;
-use text::output::put_number;
-ghost use Rattle.replay.specs.Output.{Line, refusedLine, badLine, reportLine, answerLine, refusalRoom, answerRoom};
-
-// The line of a refused call, table or script.
-pub fn put_refused(output: &mut [u8], used: usize, number: u32) -> usize
-    ensures { λ r. ⌜ Line refusalRoom (now (output .entry)) used (refusedLine number) (now (output .exit)) r ⌝ }
-{
-    let at = put(output, used, b"REFUSED ");
-    put_number(output, at, number as u64, b'\n')
-}
+use text::output::put_numbers;
+use text::output::put_refused;
+ghost use Rattle.replay.specs.Output.{Line, badLine, reportLine, answerLine, refusalRoom, answerRoom};
 
 // The line for a line of the script that is not what it must be.
 pub fn put_bad_line(output: &mut [u8], used: usize, line: usize) -> usize
     ensures { λ r. ⌜ Line refusalRoom (now (output .entry)) used (badLine line) (now (output .exit)) r ⌝ }
 {
     let at = put(output, used, b"BAD LINE ");
-    put_number(output, at, line as u64, b'\n')
+    let numbers = [line as u64];
+    put_numbers(output, at, &numbers)
 }
 
 // The tasks that ran, finished and were late in a slot, and the number of runners.
@@ -31,10 +25,8 @@ fn put_report(output: &mut [u8], used: usize, report: Report) -> usize
     let ran = report.ran;
     let finished = report.finished;
     let late = report.late;
-    let a = put_number(output, used, mask(ran), b' ');
-    let b = put_number(output, a, mask(finished), b' ');
-    let c = put_number(output, b, mask(late), b' ');
-    put_number(output, c, report.runners as u64, b'\n')
+    let numbers = [mask(ran), mask(finished), mask(late), report.runners as u64];
+    put_numbers(output, used, &numbers)
 }
 
 // The line of a call's answer.

@@ -4,12 +4,13 @@ use native.Mathlib.Omega.{arith}
 use mathlib.Core.Path.{_≡_, refl}
 use lib.ListN.{length}
 use Rattle.text.specs.Number.{digitsOf, decimalText}
+use Rattle.text.specs.Output.{furtherNumbers, numbersLine}
 use Rattle.machine.proofs.Computing.{computing}
 use Rattle.session.specs.Printed.{slotLine, slotLinesFrom, caseJ, caseK, printed}
 use Rattle.session.specs.Document.{documentLines}
 
 pub document-holds : printed ≡ documentLines
-unfolding computing digitsOf decimalText slotLine slotLinesFrom caseJ caseK printed documentLines
+unfolding computing digitsOf decimalText furtherNumbers numbersLine slotLine slotLinesFrom caseJ caseK printed documentLines
 document-holds = refl
 
 -- eleven lines of eight bytes

@@ -2,11 +2,11 @@
 -- `session-lines` (a case), and `Playing` with `play-none`, `play-more` and `play-all` (the loop of slots).
 use Prim.Native.Nat.{ℕ, suc, _+_, _-_, _≤_, _<_}
 use native.Mathlib.Omega.{arith}
-use mathlib.Core.Path.{_≡_, refl, _∙_}
-use mathlib.Core.List.{List, [], _∷_, _++_, append-nil, append-assoc}
+use mathlib.Core.Path.{_≡_, refl}
+use mathlib.Core.List.{List, [], _∷_, _++_, append-assoc}
 use lib.ListN.{length, replicate}
-use Rattle.text.specs.Output.{Grown}
-use Rattle.text.proofs.Growing.{grown-none, grown-more}
+use Rattle.text.specs.Output.{Put}
+use Rattle.text.proofs.Putting.{Partly, partly-none, partly-more, partly-all}
 use Rattle.tasks.specs.declared.task.Task.{Task}
 use Rattle.tasks.specs.declared.table.Table.{Table}
 use Rattle.machine.specs.Calls.{start, step, release, slot}
@@ -44,36 +44,24 @@ session-lines tasks cores slots m a t h e f =
 abbrev slotsFrom : ℕ → Machine → ℕ → List ℕ
 slotsFrom n m slots = slotLinesFrom n (play m (replicate slots Slot))
 
--- after n slots of m₀: the array has grown by their lines, and those of the slots that are left are the rest
+-- after n slots of m₀: the lines of the slots that are left are still to come
 pub record Playing (before : List ℕ) (used : ℕ) (m₀ : Machine) (slots : ℕ) (after : List ℕ) (at : ℕ) (m : Machine) (n : ℕ) : Type 0 where
-  pub put : List ℕ
-  pub grown : Grown before used put after at
-  pub whole : slotsFrom 1 m₀ slots ≡ put ++ slotsFrom (n + 1) m (slots - n)
+  pub lines : Partly before used (slotsFrom 1 m₀ slots) after at (slotsFrom (n + 1) m (slots - n))
   pub within : n ≤ slots
 
-pub play-none : (a : List ℕ) (u : ℕ) (m : Machine) (slots : ℕ) → u ≤ length a + 1 → Playing a u m slots a u m 0
-play-none a u m slots h =
+pub play-none : (a : List ℕ) (u : ℕ) (m : Machine) (slots : ℕ) → Playing a u m slots a u m 0
+play-none a u m slots =
     let e : slots - 0 ≡ slots = omega arith in
-    record { put = []; grown = grown-none a u h; whole = rw e refl; within = omega arith }
+    record { lines = rw e (partly-none a u (slotsFrom 1 m slots)); within = omega arith }
 
 module _ (a : List ℕ) (u : ℕ) (m₀ : Machine) (slots : ℕ) (b : List ℕ) (v : ℕ) (m : Machine) (n : ℕ) (p : Playing a u m₀ slots b v m n) where
   pub play-more :
-      n < slots → (c : List ℕ) (w : ℕ) → Grown b v (slotLine (n + 1) (slot m .report)) c w
-      → Playing a u m₀ slots c w (slot m .machine) (n + 1)
+      n < slots → (c : List ℕ) (w : ℕ) → Put b v (slotLine (n + 1) (slot m .report)) c w → Playing a u m₀ slots c w (slot m .machine) (n + 1)
   unfolding play step isSlot slotLinesFrom
   play-more l c w g =
-      let line = slotLine (n + 1) (slot m .report) in
       let e : slots - n ≡ suc (slots - (n + 1)) = omega arith in
-      record {
-        put = p .put ++ line;
-        grown = grown-more a b (p .put) u v (p .grown) c line w g;
-        whole = p .whole ∙ rw (e, append-assoc (p .put) line (slotsFrom (n + 1 + 1) (slot m .machine) (slots - (n + 1)))) refl;
-        within = omega arith;
-      }
+      record { lines = partly-more a u _ b v _ _ (rw e at (p .lines)) c w g; within = omega arith }
 
-  pub play-all : slots ≤ n → Grown a u (slotsFrom 1 m₀ slots) b v
+  pub play-all : slots ≤ n → Put a u (slotsFrom 1 m₀ slots) b v
   unfolding play slotLinesFrom
-  play-all l =
-      let e : slots - n ≡ 0 = omega arith in
-      let z : slotsFrom 1 m₀ slots ≡ p .put = p .whole ∙ rw e (append-nil (p .put)) in
-      rw z (p .grown)
+  play-all l = let e : slots - n ≡ 0 = omega arith in partly-all a u _ b v (rw e at (p .lines))

@@ -2,18 +2,16 @@
 use Prim.Native.Nat.{ℕ, _+_}
 use mathlib.Core.Bool.{cond}
 use mathlib.Core.List.{List, [], _∷_, _++_}
-use Rattle.text.specs.Number.{decimalText}
+use Rattle.text.specs.Output.{numbersLine}
 use Rattle.machine.specs.Mask.{mask}
 use Rattle.machine.specs.Play.{Entry}
 use Rattle.machine.specs.InTime.{isSlot}
 use Rattle.machine.specs.Cases.{task, session}
 use Rattle.machine.specs.declared.answer.Report.{Report}
 
--- "For each slot it prints the slot's number and the tasks that ran, finished and were late, each as the sum of 2 to the power (task number − 1)":
--- byte 32 is the space between them, and "Each printed line ends with byte 10"
+-- "For each slot it prints the slot's number and the tasks that ran, finished and were late, each as the sum of 2 to the power (task number − 1)"
 unfoldable pub slotLine : (number : ℕ) → Report → List ℕ
-slotLine number r =
-    decimalText number ++ 32 ∷ decimalText (mask (r .ran)) ++ 32 ∷ decimalText (mask (r .finished)) ++ 32 ∷ decimalText (mask (r .late)) ++ 10 ∷ []
+slotLine number r = numbersLine (number ∷ mask (r .ran) ∷ mask (r .finished) ∷ mask (r .late) ∷ [])
 
 -- the lines of a log's slots, of which the first has the number n
 unfoldable pub slotLinesFrom : (n : ℕ) → List Entry → List ℕ

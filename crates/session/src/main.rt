@@ -1,16 +1,15 @@
 // Plays case j of document 01 for six slots, then case k for five, and prints a line for each slot.
-use libc::STDOUT_FILENO;
 use machine::answer::Report;
 use machine::answer::mask;
 use machine::machine::Machine;
 use tasks::table::Table;
 use tasks::task::Task;
-use text::output::put_number;
-ghost use Prim.Native.Nat.{_+_, _≤_};
+use text::output::put_numbers;
+ghost use Prim.Native.Nat.{_≤_};
 ghost use mathlib.Core.Path.{_≡_};
 ghost use mathlib.Core.List.{List, _++_};
 ghost use lib.ListN.{length, replicate};
-ghost use Rattle.text.specs.Output.{Grown, Holds};
+ghost use Rattle.text.specs.Output.{Put, Holds};
 ghost use Rattle.machine.specs.Play.{play as log};
 ghost use Rattle.machine.specs.Cases.{task, releases};
 ghost use Rattle.machine.specs.declared.call.Call.{Call};
@@ -22,21 +21,18 @@ const OUTPUT_ROOM: usize = 88;
 
 // Puts a slot's number and the tasks that ran, finished and were late.
 fn put_slot(output: &mut [u8], used: usize, number: u64, report: Report) -> usize
-    ensures { λ r. ⌜ Grown (now (output .entry)) used (slotLine number report) (now (output .exit)) r ⌝ }
+    ensures { λ r. ⌜ Put (now (output .entry)) used (slotLine number report) (now (output .exit)) r ⌝ }
 {
     let ran = report.ran;
     let finished = report.finished;
     let late = report.late;
-    let a = put_number(output, used, number, b' ');
-    let b = put_number(output, a, mask(ran), b' ');
-    let c = put_number(output, b, mask(finished), b' ');
-    put_number(output, c, mask(late), b'\n')
+    let numbers = [number, mask(ran), mask(finished), mask(late)];
+    put_numbers(output, used, &numbers)
 }
 
 // Puts a line for each of the next slots of a machine.
 fn play(output: &mut [u8], used: usize, mut machine: Machine, slots: u64) -> usize
-    requires { ⌜ used ≤ length (now output) + 1 ⌝ }
-    ensures { λ r. ⌜ Grown (now (output .entry)) used (slotLinesFrom 1 (log machine (replicate slots Slot))) (now (output .exit)) r ⌝ }
+    ensures { λ r. ⌜ Put (now (output .entry)) used (slotLinesFrom 1 (log machine (replicate slots Slot))) (now (output .exit)) r ⌝ }
 {
     let mut at = used;
     let mut number: u64 = 0;
@@ -113,5 +109,5 @@ fn sessions(output: &mut [u8]) -> usize
 fn main() {
     let mut output = [0u8; OUTPUT_ROOM];
     let used = sessions(&mut output);
-    io::write_all(STDOUT_FILENO, &output[..used]);
+    stdio::write_output(&output, used);
 }

@@ -1,2 +1,10 @@
-pub mod Digits
-pub mod Growing
+pub mod Scan
+pub mod WordLaws
+pub mod NumberLaws
+pub mod NumberScan
+pub mod DigitLaws
+pub mod LineLaws
+pub mod FieldLaws
+pub mod ThreeNumbers
+pub mod Putting
+pub mod NumbersLine

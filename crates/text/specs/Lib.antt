@@ -1,2 +1,5 @@
+pub mod Lines
+pub mod Words
 pub mod Number
+pub mod Fields
 pub mod Output

@@ -1,2 +1,1 @@
-pub mod Text
-pub mod Grown
+pub mod Printed

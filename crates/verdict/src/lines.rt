@@ -1,33 +1,27 @@
-// The lines that the verdict program prints.
-use crate::buffer::Buffer;
+// The lines that the verdict program prints. What puts them answers how many bytes the array then holds.
 use tasks::limits::MAX_CORES;
 use tasks::outcome::Outcome;
 use tasks::table::Table;
-ghost use Prim.Native.Nat.{_+_, _≤_, _<_, min};
+use text::output::put;
+use text::output::put_numbers;
+use text::output::put_refused;
+ghost use Prim.Native.Nat.{_≤_, min};
 ghost use mathlib.Core.Path.{_≡_};
-ghost use mathlib.Core.Bool.{cond};
+ghost use mathlib.Core.List.{_++_};
+ghost use lib.ListN.{length};
+ghost use Rattle.text.specs.Output.{Put, Holds};
 ghost use Rattle.tasks.specs.Limits.{maxCores};
-ghost use Rattle.verdict.specs.Text.{verdictLine, verdictLines, printed};
-ghost use Rattle.verdict.specs.Grown.{room, Grown, Holds};
-
-// 1 for admitted or 0, as a byte.
-fn admit_byte(admits: bool) -> u8
-    ensures { λ r. ⌜ r ≡ cond admits 49 48 ⌝ }
-{
-    if admits { b'1' } else { b'0' }
-}
+ghost use Rattle.verdict.specs.Printed.{header, verdictLine, verdictLines, printed, room};
 
 // The line of a number of cores: the number, COUNT, and 1 for admitted or 0.
-fn with_line(buffer: Buffer, table: Table, cores: u32) -> Buffer
-    requires { ⌜ (cores < 100) × (buffer .length + 8 ≤ room) ⌝ }
-    ensures { λ r. ⌜ Grown buffer (verdictLine table cores) r ⌝ }
+fn put_line(output: &mut [u8], used: usize, table: Table, cores: u32) -> usize
+    ensures { λ r. ⌜ Put (now (output .entry)) used (verdictLine table cores) (now (output .exit)) r ⌝ }
 {
     let verdict = judge::judge(table, cores);
     let count = verdict.count();
-    let first = buffer.with_number(cores).with_byte(b' ');
-    let second = first.with_number(count).with_byte(b' ');
-    let third = second.with_byte(admit_byte(verdict.admits()));
-    third.with_byte(b'\n')
+    let admits = verdict.admits();
+    let numbers = [cores as u64, count as u64, admits as u64];
+    put_numbers(output, used, &numbers)
 }
 
 // The largest number of cores that has a line.
@@ -41,31 +35,29 @@ fn last_cores(count: usize) -> u32
 }
 
 // The line of names and the verdict lines.
-fn verdict_lines(table: Table) -> Buffer
-    ensures { λ r. ⌜ Holds (verdictLines table (min maxCores (table .count))) r ⌝ }
+fn put_lines(output: &mut [u8], table: Table) -> usize
+    ensures { λ r. ⌜ Put (now (output .entry)) 0 (header ++ verdictLines table (min maxCores (table .count))) (now (output .exit)) r ⌝ }
 {
     let last = last_cores(table.count);
-    let mut buffer = Buffer::new().with_text(b"CORES COUNT ADMIT\n");
+    let mut used = put(output, 0, b"CORES COUNT ADMIT\n");
     let mut cores: u32 = 0;
     while cores < last {
         cores += 1;
-        buffer = with_line(buffer, table, cores);
+        used = put_line(output, used, table, cores);
     }
-    buffer
+    used
 }
 
 // What is printed for a text.
-pub fn printed_for(text: &[u8]) -> Buffer
-    ensures { λ r. ⌜ Holds (printed (now (text .entry))) r ⌝ }
+pub fn put_printed(output: &mut [u8], text: &[u8]) -> usize
+    requires { ⌜ room ≤ length (now output) ⌝ }
+    ensures { λ r. ⌜ Holds (printed (now (text .entry))) (now (output .exit)) r ⌝ }
 {
     let answer = reader::read(text);
     let outcome = answer.outcome;
     if let Outcome::Refused { number, place: _ } = outcome {
-        return Buffer::new()
-            .with_text(b"REFUSED ")
-            .with_number(number)
-            .with_byte(b'\n');
+        return put_refused(output, 0, number);
     }
     let table = answer.table;
-    verdict_lines(table)
+    put_lines(output, table)
 }

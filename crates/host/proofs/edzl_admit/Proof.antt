@@ -1,9 +1,8 @@
 -- `edzl_admit` meets its contract.
 use Prim.Native.Nat.{_≤_}
 use native.Mathlib.Omega.{arith}
-use mathlib.Core.Path.{_≡_, refl, sym, ap, _∙_}
-use mathlib.Core.Bool.{Bool, true, false, cond}
-use mir.Val.{boolByte}
+use mathlib.Core.Path.{_≡_, sym, ap, _∙_}
+use Rattle.laws.proofs.Booleans.{bool-byte}
 use Rattle.tasks.specs.declared.outcome.Outcome.the-variants.{Refused}
 use Rattle.tasks.specs.Check.{checked}
 use Rattle.tasks.proofs.Small.{checked-below}
@@ -30,10 +29,6 @@ told :
     → checked (c .before .before .before .before .before .before .read .result .table) (c .before .before .before .before .before .before .before .before .args .cores)
     ≡ Refused (c .verdict .given .0 .0) (c .verdict .given .0 .1 .0)
 told c = refused-outcome _ _ _ _ (sym (ap valuesOf (c .verdict .given .1)) ∙ c .before .before .judge .ensures)
-
-bit-of : (b : Bool) → boolByte b ≡ cond b 1 0
-bit-of true = refl
-bit-of false = refl
 
 read-requires : tie.Need-read-requires
 read-requires c κs = search needs
@@ -79,7 +74,7 @@ returns-3 c =
     let v = c .before in
     let d = v .before .before .before .before in
     let j = judged-values _ _ _ _ (sym (ap valuesOf (v .verdict2 .given .1)) ∙ v .before .before .judge .ensures) in
-    rw (← d .before .before .read .ensures, d .enum-told .given .1, j .outcome, j .admits-is) (bit-of (v .verdict2 .given .0 .1 .0))
+    rw (← d .before .before .read .ensures, d .enum-told .given .1, j .outcome, j .admits-is) (bool-byte (v .verdict2 .given .0 .1 .0))
 
 pub edzl-admit-spec : {M : Type 1} → statement M
 edzl-admit-spec =

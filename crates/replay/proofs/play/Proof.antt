@@ -1,28 +1,33 @@
--- `play` meets its contract. The invariant: what the array holds, and the answers to the rest of the text, are the whole output.
-use Prim.Native.Nat.{_<_}
+-- `play` meets its contract. The invariant: the answers to the rest of the text are still to come.
+use Prim.Native.Nat.{_+_, _*_, _≤_, _<_}
 use native.Mathlib.Nat.{le-of-lt}
 use native.Mathlib.Omega.{arith}
-use mathlib.Core.Path.{_≡_, refl, sym, _∙_}
+use mathlib.Core.Path.{_≡_, sym, _∙_}
 use borrow.Author.Needs.{needs}
 use lib.ListN.{length, take}
 use lib.Seq.{length-take-le}
+use Rattle.laws.proofs.Parts.{from-length}
+use Rattle.text.proofs.Putting.{put-size}
 use Rattle.replay.specs.declared.calls.CallLine.the-variants.{Read}
-use Rattle.replay.specs.Lines.{lines, unended}
 use Rattle.replay.specs.Calls.{callOf}
-use Rattle.replay.specs.Script.{answers}
-use Rattle.replay.proofs.Playing.{Playing, play-none, play-all, not-ended, no-call, shorter, play-more}
+use Rattle.replay.specs.Output.{callRoom}
+use Rattle.replay.proofs.Playing.{answered, Playing, play-none, play-all, not-ended, no-call, shorter, play-more}
 use Rattle.replay.proofs.play.Statement.{statement}
 use Rattle.replay.proofs.play.Tie as tie
 
 abbrev Inv-loop : tie.InvT-loop
 Inv-loop text machine₀ first output₀ rest₀ line₀ used₀ machine output rest line used =
-    Playing (answers machine₀ first (lines text) (unended text)) output used machine line rest × (length output ≡ length output₀)
+    Playing output₀ (answered machine₀ first text) output used machine line rest (callRoom * length text) × (line + length rest ≤ first + length text)
 
 abbrev μ-loop : tie.MeasureT-loop
 μ-loop text machine₀ first output₀ rest₀ line₀ used₀ machine output rest line used = length rest
 
+-- the array keeps its length
+kept : (c : tie.At-loop Inv-loop μ-loop) → length (c .loop .output) ≡ length (c .before .before .before .args .output .now)
+kept c = put-size _ _ _ _ _ (c .loop .inv .0 .left .put)
+
 loop-holds : tie.Need-loop-holds Inv-loop μ-loop
-loop-holds c = let h = c .before .before .pre in (play-none _ _ _ _ (h .0) (h .1) (h .2), refl)
+loop-holds c = (play-none _ _ _ _, omega arith)
 
 find-requires : tie.Need-find-requires Inv-loop μ-loop
 find-requires c κs = search needs
@@ -31,14 +36,14 @@ put-bad-line-requires : tie.Need-put-bad-line-requires Inv-loop μ-loop
 put-bad-line-requires c κs = search needs
 
 same-length : tie.Need-same-length Inv-loop μ-loop
-same-length c = search needs
+same-length c = let b = c .before .before in put-size _ _ _ _ _ (b .put-bad-line .ensures .put) ∙ kept (b .before .before .before .before .before)
 
 returns : tie.Need-returns Inv-loop μ-loop
 returns c =
     let b = c .before .before in
     let t = b .before .before in
     let l = t .before .before in
-    not-ended _ _ _ _ _ _ (l .before .loop .inv .0) _ _ (b .put-bad-line .ensures) _ (t .before .find .ensures) (l .loop-test .taken) (t .if1 .taken)
+    not-ended _ _ _ _ _ _ _ _ (l .before .loop .inv .0) _ _ (b .put-bad-line .ensures) _ (t .before .find .ensures) (l .loop-test .taken) (t .if1 .taken)
 
 slice-aggregate-call-line : tie.Need-slice-aggregate-call-line Inv-loop μ-loop
 slice-aggregate-call-line c = sym (length-take-le _ _ (le-of-lt (c .before .if1 .left)))
@@ -68,7 +73,9 @@ put-bad-line-requires-2 : tie.Need-put-bad-line-requires-2 Inv-loop μ-loop
 put-bad-line-requires-2 c κs = search needs
 
 same-length-2 : tie.Need-same-length-2 Inv-loop μ-loop
-same-length-2 c = search needs
+same-length-2 c =
+    let b = c .before .before in
+    put-size _ _ _ _ _ (b .put-bad-line2 .ensures .put) ∙ kept (at-line (b .before .before .before .before .before .before))
 
 returns-2 : tie.Need-returns-2 Inv-loop μ-loop
 returns-2 c =
@@ -76,7 +83,7 @@ returns-2 c =
     let t = b .before .before in
     let d = t .before .before in
     let e = d .before .before in
-    no-call _ _ _ _ _ _ (at-line e .loop .inv .0) _ _ (b .put-bad-line2 .ensures) _ (e .before .find .ensures) (e .if1 .left)
+    no-call _ _ _ _ _ _ _ _ (at-line e .loop .inv .0) _ _ (b .put-bad-line2 .ensures) _ (e .before .find .ensures) (e .if1 .left)
     (sym (d .call-line .ensures) ∙ t .enum-told .given .1)
 
 step-requires : tie.Need-step-requires Inv-loop μ-loop
@@ -95,7 +102,7 @@ ended :
 ended c = line-of (answered-at c) .if1 .left
 
 add-rest : tie.Need-add-rest Inv-loop μ-loop
-add-rest c = omega (arith, ended c)
+add-rest c = let l = at-line (line-of (answered-at c)) in omega (arith, ended c, l .loop .inv .1, l .before .before .before .pre, l .before .before .before .good)
 
 sub-rest : tie.Need-sub-rest Inv-loop μ-loop
 sub-rest c = omega (arith, ended c)
@@ -107,13 +114,13 @@ part-rest-end : tie.Need-part-rest-end Inv-loop μ-loop
 part-rest-end c = search needs
 
 add-line : tie.Need-add-line Inv-loop μ-loop
-add-line c = omega (arith, at-line (line-of (answered-at (c .before))) .loop .inv .0 .few)
+add-line c = let l = at-line (line-of (answered-at (c .before))) in omega (arith, ended (c .before), l .loop .inv .1, l .before .before .before .pre, l .before .before .before .good)
 
 loop-less : tie.Need-loop-less Inv-loop μ-loop
 loop-less c =
     let k = answered-at (c .before) in
     let e = line-of k in
-    shorter _ _ _ _ _ _ (at-line e .loop .inv .0) _ (e .before .find .ensures) (e .if1 .left) _ (call-is k)
+    shorter _ _ _ _ _ _ _ _ (at-line e .loop .inv .0) _ (e .before .find .ensures) (e .if1 .left) _ (call-is k)
 
 loop-again : tie.Need-loop-again Inv-loop μ-loop
 loop-again c =
@@ -121,19 +128,18 @@ loop-again c =
     let e = line-of k in
     let l = at-line e in
     let a = c .before .before .before .before in
-    let t = a .before .before in
-    let z : length (a .put-answer .last .0) ≡ length (l .loop .output) = search needs in (
+    let t = a .before .before in (
       rw (t .step .ensures)
-          (play-more _ _ _ _ _ _ (l .loop .inv .0) _ (e .before .find .ensures) (e .if1 .left) _ (call-is k) _ _
+          (play-more _ _ _ _ _ _ _ _ (l .loop .inv .0) _ (e .before .find .ensures) (e .if1 .left) _ (call-is k) _ _
           (rw (t .step .ensures) at (a .put-answer .ensures))),
-      z ∙ l .loop .inv .1,
+      omega (arith, l .loop .inv .1, e .if1 .left, from-length (l .loop .rest .now) (e .before .find .result + 1)),
     )
 
 same-length-3 : tie.Need-same-length-3 Inv-loop μ-loop
-same-length-3 c = c .before .loop .inv .1
+same-length-3 c = kept (c .before)
 
 returns-3 : tie.Need-returns-3 Inv-loop μ-loop
-returns-3 c = play-all _ _ _ _ _ _ (c .before .loop .inv .0) (c .loop-test .left)
+returns-3 c = play-all _ _ _ _ _ _ _ _ (c .before .loop .inv .0) (c .loop-test .left)
 
 pub play-spec : {M : Type 1} → statement M
 play-spec =

@@ -8,13 +8,12 @@ use borrow.Author.Needs.{needs}
 use borrow.Author.Tests.{lt-ltb}
 use lib.ListN.{length}
 use lib.Seq.{length-take-le}
-use Rattle.reader.proofs.Scan.{part}
-use Rattle.reader.proofs.NamesLine.{past}
-use Rattle.reader.proofs.ValueLine.{rest-length}
+use Rattle.laws.proofs.Parts.{past, from-drop, from-length}
 use Rattle.replay.specs.declared.calls.CallsStart.{CallsStart}
-use Rattle.replay.specs.Script.{printedAfterCores, printed}
-use Rattle.replay.proofs.CallLaws.{Within, found-within}
-use Rattle.replay.proofs.OutputLaws.{line-all}
+use Rattle.replay.specs.Output.{refusalRoom}
+use Rattle.replay.specs.Script.{printedAfterCores, printed, room}
+use Rattle.replay.proofs.CallsStart.{Within, found-within}
+use Rattle.replay.proofs.OutputLaws.{line-all, refused-put}
 use Rattle.replay.proofs.ScriptLaws.{first-unended, first-broken, first-read}
 use Rattle.replay.proofs.replay.Statement.{statement}
 use Rattle.replay.proofs.replay.Tie as tie
@@ -46,7 +45,7 @@ printed-is c found f =
     let d = cores-of c in
     let n = d .before .before in
     let e = line-of d in
-    first-read _ (script-few (e .before .before)) _ (e .before .find .ensures) (e .if2 .left) _ (sym (n .numbered-line .ensures) ∙ d .cores .given .1)
+    first-read _ (script-few (e .before .before)) _ (e .before .find .ensures) (e .if2 .left) _ (sym (n .number-after .ensures) ∙ d .cores .given .1)
     ∙ ap (λ (s : CallsStart). printedAfterCores s (d .cores .given .0 .0) (text e)) (sym (c .find-calls .ensures) ∙ f)
 
 -- the table and the calls lie within the text
@@ -57,11 +56,11 @@ found c = found-within _ _ _ _ (sym (c .before .before .find-calls .ensures) ∙
 
 -- the text is no longer than a script may be
 text-few : (c : tie.Else2) → length (text c) ≤ 65536
-text-few c = omega (arith, script-few (c .before .before), rest-length (script c) (c .before .find .result + 1))
+text-few c = omega (arith, script-few (c .before .before), from-length (script c) (c .before .find .result + 1))
 
 -- the output's room
-room : (c : tie.Else2) → 589856 ≤ length (c .before .before .before .before .before .args .output .now)
-room c = c .before .before .before .before .before .pre
+has-room : (c : tie.Else2) → room ≤ length (c .before .before .before .before .before .args .output .now)
+has-room c = c .before .before .before .before .before .pre
 
 put-refused-requires : tie.Need-put-refused-requires
 put-refused-requires c κs = search needs
@@ -75,7 +74,7 @@ returns c =
     let p = c .before .before in
     let t = p .before .before in
     let h : 65536 < length (t .before .before .before .args .script .now) = omega (arith, t .if1 .taken) in
-    rw (lt-ltb _ _ h) (line-all _ _ _ _ (t .before .before .before .pre) (p .put-refused .ensures))
+    rw (lt-ltb _ _ h) (line-all _ _ _ _ _ (omega (arith, t .before .before .before .pre)) (refused-put refusalRoom (omega arith) _ _ _ _ _ (omega arith) (p .put-refused .ensures)))
 
 find-requires : tie.Need-find-requires
 find-requires c κs = search needs
@@ -91,16 +90,16 @@ returns-2 c =
     let p = c .before .before in
     let t = p .before .before in
     rw (first-unended _ (script-few (t .before .before)) _ (t .before .find .ensures) (t .if2 .taken))
-    (line-all _ _ _ _ (t .before .before .before .before .before .pre) (p .put-bad-line .ensures))
+    (line-all _ _ _ _ _ (omega (arith, t .before .before .before .before .before .pre)) (p .put-bad-line .ensures))
 
-slice-aggregate-numbered-line : tie.Need-slice-aggregate-numbered-line
-slice-aggregate-numbered-line c = sym (length-take-le _ _ (le-of-lt (c .before .if2 .left)))
+slice-aggregate-number-after : tie.Need-slice-aggregate-number-after
+slice-aggregate-number-after c = sym (length-take-le _ _ (le-of-lt (c .before .if2 .left)))
 
-slice-aggregate-numbered-line-2 : tie.Need-slice-aggregate-numbered-line-2
-slice-aggregate-numbered-line-2 c = search needs
+slice-aggregate-number-after-2 : tie.Need-slice-aggregate-number-after-2
+slice-aggregate-number-after-2 c = search needs
 
-numbered-line-requires : tie.Need-numbered-line-requires
-numbered-line-requires c κs = search needs
+number-after-requires : tie.Need-number-after-requires
+number-after-requires c κs = search needs
 
 enum-known-cores : tie.Need-enum-known-cores
 enum-known-cores c = search needs
@@ -120,8 +119,8 @@ returns-3 c =
     let t = p .before .before in
     let n = t .before .before in
     let e = n .before .before .before in
-    rw (first-broken _ (script-few (e .before .before)) _ (e .before .find .ensures) (e .if2 .left) (sym (n .numbered-line .ensures) ∙ t .enum-told .given .1))
-    (line-all _ _ _ _ (room e) (p .put-bad-line2 .ensures))
+    rw (first-broken _ (script-few (e .before .before)) _ (e .before .find .ensures) (e .if2 .left) (sym (n .number-after .ensures) ∙ t .enum-told .given .1))
+    (line-all _ _ _ _ _ (omega (arith, has-room e)) (p .put-bad-line2 .ensures))
 
 add-text : tie.Need-add-text
 add-text c = search needs
@@ -162,10 +161,7 @@ part-run-end c = search needs
 run-requires : tie.Need-run-requires
 run-requires c κs =
     let t = c .before .before .before .before in
-    let e = line-of (cores-of (t .before .before)) in
-    let n = text-few e in
-    let w = found t in
-    (omega (arith, rest-length (text e) (t .table .given .0 .1 .0)), omega (arith, w .few), search needs)
+    omega (arith, found t .few, text-few (line-of (cores-of (t .before .before))))
 
 same-length-4 : tie.Need-same-length-4
 same-length-4 c = search needs
@@ -175,7 +171,7 @@ unfolding printedAfterCores
 returns-4 c =
     let p = c .before .before in
     let l = p .before .before .before in
-    rw (printed-is (l .before .before) _ (l .line .given .1)) (line-all _ _ _ _ (room (line-of (cores-of (l .before .before)))) (p .put-bad-line3 .ensures))
+    rw (printed-is (l .before .before) _ (l .line .given .1)) (line-all _ _ _ _ _ (omega (arith, has-room (line-of (cores-of (l .before .before))))) (p .put-bad-line3 .ensures))
 
 same-length-5 : tie.Need-same-length-5
 same-length-5 c = search needs
@@ -186,7 +182,9 @@ returns-5 c =
     let r = c .before .before in
     let t = r .before .before .before .before .before in
     let f = t .before .before in
-    rw (printed-is f _ (t .table .given .1)) (rw (part (text (line-of (cores-of f))) (t .table .given .0 .1 .0)) at (r .run .ensures))
+    let e = line-of (cores-of f) in
+    let k = t .table .given .0 .1 .0 in
+    rw (printed-is f _ (t .table .given .1)) (rw (from-drop (text e) k) at (line-all _ _ _ _ _ (omega (arith, text-few e, from-length (text e) k, has-room e)) (r .run .ensures)))
 
 pub replay-spec : {M : Type 1} → statement M
 replay-spec =
@@ -199,9 +197,9 @@ replay-spec =
     put-bad-line-requires
     same-length-2
     returns-2
-    slice-aggregate-numbered-line
-    slice-aggregate-numbered-line-2
-    numbered-line-requires
+    slice-aggregate-number-after
+    slice-aggregate-number-after-2
+    number-after-requires
     enum-known-cores
     enum-told
     put-bad-line-requires-2

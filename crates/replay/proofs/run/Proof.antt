@@ -1,15 +1,10 @@
 -- `run` meets its contract: by the outcome of reading the table, and then by that of the start.
-use Prim.Native.Nat.{_≤_}
+use native.Mathlib.Omega.{arith}
 use borrow.Author.Needs.{needs}
-use lib.ListN.{length}
 use Rattle.replay.specs.Script.{printedAfterStart, printedAfterReading, printedFor}
-use Rattle.replay.proofs.OutputLaws.{line-all}
+use Rattle.replay.proofs.OutputLaws.{refused-put}
 use Rattle.replay.proofs.run.Statement.{statement}
 use Rattle.replay.proofs.run.Tie as tie
-
--- the output's room, from the place where the table was read
-room : (c : tie.After-read) → 589856 ≤ length (c .before .before .before .before .args .output .now)
-room c = c .before .before .before .before .pre .2
 
 read-requires : tie.Need-read-requires
 read-requires c κs = search needs
@@ -28,7 +23,7 @@ unfolding printedFor printedAfterReading
 returns c =
     let p = c .before .before in
     let o = p .before .before .before in
-    rw (← o .before .before .read .ensures, o .outcome .given .1) (line-all _ _ _ _ (room (o .before .before)) (p .put-refused .ensures))
+    rw (← o .before .before .read .ensures, o .outcome .given .1) (refused-put _ (omega arith) _ _ _ _ _ (search needs) (p .put-refused .ensures))
 
 enum-told : tie.Need-enum-told
 enum-told c = search needs
@@ -53,7 +48,7 @@ returns-2 c =
     let s = o .before .before in
     let t = s .before .before in
     rw (← t .before .before .read .ensures, t .enum-told .given .1, ← s .start .ensures .is, o .outcome2 .given .1)
-    (line-all _ _ _ _ (room (t .before .before)) (p .put-refused2 .ensures))
+    (refused-put _ (omega arith) _ _ _ _ _ (search needs) (p .put-refused2 .ensures))
 
 enum-told-2 : tie.Need-enum-told-2
 enum-told-2 c = search needs

@@ -1,7 +1,8 @@
--- `play` meets its contract. The invariant: the array has grown by the lines of the slots so far.
+-- `play` meets its contract. The invariant: the lines of the slots so far were put.
 use Prim.Native.Nat.{_-_}
 use native.Mathlib.Omega.{arith}
 use borrow.Author.Needs.{needs}
+use Rattle.text.proofs.Putting.{put-size}
 use Rattle.session.proofs.Playing.{Playing, play-none, play-more, play-all}
 use Rattle.session.proofs.play.Statement.{statement}
 use Rattle.session.proofs.play.Tie as tie
@@ -13,7 +14,7 @@ abbrev μ-loop : tie.MeasureT-loop
 μ-loop output₀ used machine₀ slots at₀ number₀ output machine at number = slots - number
 
 loop-holds : tie.Need-loop-holds Inv-loop μ-loop
-loop-holds c = play-none _ _ _ _ (c .before .pre)
+loop-holds c = play-none _ _ _ _
 
 add-number : tie.Need-add-number Inv-loop μ-loop
 add-number c = omega arith
@@ -36,7 +37,7 @@ loop-again c =
     (play-more _ _ _ _ _ _ _ _ (t .before .loop .inv) (t .loop-test .taken) _ _ (rw (s .slot .ensures) at (p .put-slot .ensures)))
 
 same-length : tie.Need-same-length Inv-loop μ-loop
-same-length c = c .before .loop .inv .grown .size
+same-length c = put-size _ _ _ _ _ (c .before .loop .inv .lines .put)
 
 returns : tie.Need-returns Inv-loop μ-loop
 returns c = play-all _ _ _ _ _ _ _ _ (c .before .loop .inv) (c .loop-test .left)

@@ -5,8 +5,8 @@ use mathlib.Core.Path.{_≡_}
 use mathlib.Core.List.{List, _++_}
 use borrow.Author.Needs.{needs}
 use lib.ListN.{length}
-use Rattle.text.specs.Output.{Grown, Holds}
-use Rattle.text.proofs.Growing.{grown-within, grown-more, grown-all}
+use Rattle.text.specs.Output.{Put, Holds}
+use Rattle.text.proofs.Putting.{put-then, put-all}
 use Rattle.session.specs.Printed.{caseJ, caseK, slotLinesFrom, printed}
 use Rattle.session.proofs.DocumentHolds.{printed-few}
 use Rattle.session.proofs.sessions.Statement.{statement}
@@ -14,13 +14,13 @@ use Rattle.session.proofs.sessions.Tie as tie
 
 -- the lines of both cases, from the start of an array that has room for them
 both :
-    (a b d s t : List ℕ) (v w : ℕ) → Grown a 0 s b v → Grown b v t d w → slotLinesFrom 1 caseJ ≡ s → slotLinesFrom 1 caseK ≡ t → 88 ≤ length a
+    (a b d s t : List ℕ) (v w : ℕ) → Put a 0 s b v → Put b v t d w → slotLinesFrom 1 caseJ ≡ s → slotLinesFrom 1 caseK ≡ t → 88 ≤ length a
     → Holds printed d w
 unfolding printed
 both a b d s t v w p q e f h =
     let z : printed ≡ s ++ t = rw (e, f) in
     let l : length (s ++ t) ≤ length a = rw z at (le-trans printed-few h) in
-    rw z (grown-all a d (s ++ t) w (grown-more a b s 0 v p d t w q) l)
+    rw z (put-all a (s ++ t) d w (put-then a 0 s b v p t d w q) l)
 
 case-j-requires : tie.Need-case-j-requires
 case-j-requires c κs = search needs
@@ -32,7 +32,7 @@ case-k-requires : tie.Need-case-k-requires
 case-k-requires c κs = search needs
 
 play-requires-2 : tie.Need-play-requires-2
-play-requires-2 c κs = grown-within _ _ _ _ _ (c .before .before .before .before .play .ensures)
+play-requires-2 c κs = search needs
 
 same-length : tie.Need-same-length
 same-length c = search needs

@@ -1,28 +1,25 @@
 -- `value_at` meets its contract.
 use Prim.Native.Nat.{ℕ, zero, suc}
 use mathlib.Core.Path.{_≡_, refl}
-use Rattle.reader.specs.Parts.{valueAt}
+use mathlib.Core.List.{[], _∷_}
+use lib.ListN.{getD}
 use Rattle.reader.proofs.values.value_at.Statement.{statement}
 use Rattle.reader.proofs.values.value_at.Tie as tie
 
 -- none of the three columns
-none : (k a b c : ℕ) → (k ≡ 0 → ⊥) → (k ≡ 1 → ⊥) → (k ≡ 2 → ⊥) → 0 ≡ valueAt k a b c
-unfolding valueAt
+none : (k a b c : ℕ) → (k ≡ 0 → ⊥) → (k ≡ 1 → ⊥) → (k ≡ 2 → ⊥) → 0 ≡ getD (a ∷ b ∷ c ∷ []) k 0
 none zero a b c n₀ n₁ n₂ = absurd (n₀ refl)
 none (suc zero) a b c n₀ n₁ n₂ = absurd (n₁ refl)
 none (suc (suc zero)) a b c n₀ n₁ n₂ = absurd (n₂ refl)
 none (suc (suc (suc k))) a b c n₀ n₁ n₂ = refl
 
 returns : tie.Need-returns
-unfolding valueAt
 returns c = rw (c .if1 .taken)
 
 returns-2 : tie.Need-returns-2
-unfolding valueAt
 returns-2 c = rw (c .if2 .taken)
 
 returns-3 : tie.Need-returns-3
-unfolding valueAt
 returns-3 c = rw (c .if3 .taken)
 
 returns-4 : tie.Need-returns-4

@@ -1,41 +1,59 @@
 -- `call_line` meets its contract: the words are tried in turn.
-use Prim.Native.Nat.{_≤_}
+use Prim.Native.Nat.{ℕ, _≤_}
 use mathlib.Core.Path.{_≡_, sym, ap, _∙_}
-use mathlib.Core.Bool.{true, false}
-use borrow.Author.Needs.{needs}
-use lib.ListN.{length}
-use Rattle.reader.specs.Names.{sameBytes}
-use Rattle.reader.proofs.Scan.{part}
-use Rattle.replay.specs.declared.numbers.Number.the-variants.{Broken}
-use Rattle.replay.specs.Words.{releaseWord, finishWord, joinWord, slotWord}
-use Rattle.replay.specs.Numbers.{numberAfter}
+use mathlib.Core.Bool.{true, false, cond}
+use mathlib.Core.List.{List}
+use borrow.Author.Tests.{not-true, not-false}
+use lib.ListN.{length, drop}
+use Rattle.laws.proofs.Parts.{from-drop}
+use Rattle.text.specs.Words.{sameBytes, beginsWith}
+use Rattle.text.specs.Fields.{threeNumbers}
+use Rattle.text.proofs.WordLaws.{not-longer}
+use Rattle.replay.specs.declared.calls.CallLine.the-variants.{Bad}
+use Rattle.replay.specs.Words.{slotWord, joinWord}
+use Rattle.replay.specs.Numbers.{maxDigits, maxNumber}
 use Rattle.replay.specs.Calls.{joinOf, callOfTask, callOf}
-use Rattle.replay.proofs.WordLaws.{not-longer}
+use borrow.Author.Needs.{needs}
 use Rattle.replay.proofs.calls.call_line.Statement.{statement}
 use Rattle.replay.proofs.calls.call_line.Tie as tie
 
--- the line is a slot
-is-slot : (c : tie.Then1) → sameBytes (c .before .before .before .before .args .line .now) slotWord ≡ true
-is-slot c = sym (c .before .same .ensures) ∙ c .if1 .taken
-
--- it is no slot, no release and no finish
-no-slot : (c : tie.Else1) → sameBytes (c .before .before .before .before .args .line .now) slotWord ≡ false
-no-slot c = sym (c .before .same .ensures) ∙ c .if1 .left
+-- the line, where a slot was tried, and where a release was
+abbrev line : tie.Else1 → List ℕ
+line c = c .before .before .before .before .args .line .now
 
 abbrev slot-tried : tie.After-enum-told → tie.Else1
 slot-tried c = c .before .before .before .before
 
-no-release :
-    (c : tie.After-enum-told) → numberAfter releaseWord (slot-tried c .before .before .before .before .args .line .now) ≡ Broken
-no-release c = sym (c .before .before .numbered-line .ensures) ∙ c .enum-told .given .1
-
 abbrev release-tried : tie.After-enum-told2 → tie.After-enum-told
 release-tried c = c .before .before .before .before
 
-no-finish :
+no-slot : (c : tie.Else1) → sameBytes (line c) slotWord ≡ false
+no-slot c = sym (c .before .same .ensures) ∙ c .if1 .left
+
+-- it is no slot, no release and no finish: a join, or no call
+joins :
     (c : tie.After-enum-told2)
-    → numberAfter finishWord (slot-tried (release-tried c) .before .before .before .before .args .line .now) ≡ Broken
-no-finish c = sym (c .before .before .numbered-line2 .ensures) ∙ c .enum-told2 .given .1
+    → let l = line (slot-tried (release-tried c)) in
+    callOf l ≡ cond (beginsWith joinWord l) (joinOf (threeNumbers maxDigits maxNumber (drop (length joinWord) l))) Bad
+unfolding callOf callOfTask
+joins c =
+    let e = release-tried c in
+    rw (no-slot (slot-tried e), sym (e .before .before .number-after .ensures) ∙ e .enum-told .given .1, sym (c .before .before .number-after2 .ensures) ∙ c .enum-told2 .given .1)
+
+-- it begins with the word of a join
+begins : (c : tie.Else2) → beginsWith joinWord (line (slot-tried (release-tried (c .before .before .before)))) ≡ true
+begins c = sym (c .before .begins-with .ensures) ∙ not-false _ (c .if2 .left)
+
+join-fits : (c : tie.Else2) → 5 ≤ length (line (slot-tried (release-tried (c .before .before .before))))
+join-fits c = not-longer joinWord _ (begins c)
+
+-- the call is what the three numbers make
+join-is : (c : tie.After-three-numbers) → callOf (line (slot-tried (release-tried (c .before .before .before .before .before)))) ≡ joinOf (c .three-numbers .result)
+join-is c =
+    let d = c .before .before in
+    let e = d .before .before .before in
+    let l = line (slot-tried (release-tried e)) in
+    joins e ∙ rw (begins d) (ap joinOf (sym (c .three-numbers .ensures ∙ ap (threeNumbers maxDigits maxNumber) (from-drop l 5))))
 
 slice-aggregate-same : tie.Need-slice-aggregate-same
 slice-aggregate-same c = search needs
@@ -45,32 +63,29 @@ same-requires c κs = search needs
 
 returns : tie.Need-returns
 unfolding callOf
-returns c = rw (is-slot c)
+returns c = rw (sym (c .before .same .ensures) ∙ c .if1 .taken)
 
-slice-aggregate-numbered-line : tie.Need-slice-aggregate-numbered-line
-slice-aggregate-numbered-line c = search needs
+slice-aggregate-number-after : tie.Need-slice-aggregate-number-after
+slice-aggregate-number-after c = search needs
 
-numbered-line-requires : tie.Need-numbered-line-requires
-numbered-line-requires c κs = search needs
+number-after-requires : tie.Need-number-after-requires
+number-after-requires c κs = search needs
 
 enum-known-number : tie.Need-enum-known-number
 enum-known-number c = search needs
 
 returns-2 : tie.Need-returns-2
 unfolding callOf callOfTask
-returns-2 c =
-    let n = c .before in
-    let d = n .before .before in
-    rw (no-slot (d .before .before), sym (d .numbered-line .ensures) ∙ n .number .given .1)
+returns-2 c = let n = c .before in rw (no-slot (n .before .before .before .before), sym (n .before .before .number-after .ensures) ∙ n .number .given .1)
 
 enum-told : tie.Need-enum-told
 enum-told c = search needs
 
-slice-aggregate-numbered-line-2 : tie.Need-slice-aggregate-numbered-line-2
-slice-aggregate-numbered-line-2 c = search needs
+slice-aggregate-number-after-2 : tie.Need-slice-aggregate-number-after-2
+slice-aggregate-number-after-2 c = search needs
 
-numbered-line-requires-2 : tie.Need-numbered-line-requires-2
-numbered-line-requires-2 c κs = search needs
+number-after-requires-2 : tie.Need-number-after-requires-2
+number-after-requires-2 c κs = search needs
 
 enum-known-number-2 : tie.Need-enum-known-number-2
 enum-known-number-2 c = search needs
@@ -79,9 +94,8 @@ returns-3 : tie.Need-returns-3
 unfolding callOf callOfTask
 returns-3 c =
     let n = c .before in
-    let d = n .before .before in
-    let e = d .before .before in
-    rw (no-slot (slot-tried e), no-release e, sym (d .numbered-line2 .ensures) ∙ n .number2 .given .1)
+    let e = n .before .before .before .before in
+    rw (no-slot (slot-tried e), sym (e .before .before .number-after .ensures) ∙ e .enum-told .given .1, sym (n .before .before .number-after2 .ensures) ∙ n .number2 .given .1)
 
 enum-told-2 : tie.Need-enum-told-2
 enum-told-2 c = search needs
@@ -92,38 +106,34 @@ slice-aggregate-begins-with c = search needs
 begins-with-requires : tie.Need-begins-with-requires
 begins-with-requires c κs = search needs
 
--- the word of a join lies within the line
-join-fits : (c : tie.Then2) → 5 ≤ length (slot-tried (release-tried (c .before .before .before)) .before .before .before .before .args .line .now)
-join-fits c = not-longer joinWord _ (sym (c .before .begins-with .ensures) ∙ c .if2 .taken)
-
-sub-join-fields : tie.Need-sub-join-fields
-sub-join-fields c = join-fits c
-
-part-join-fields-start : tie.Need-part-join-fields-start
-part-join-fields-start c = join-fits c
-
-part-join-fields-end : tie.Need-part-join-fields-end
-part-join-fields-end c = search needs
-
-join-fields-requires : tie.Need-join-fields-requires
-join-fields-requires c κs = search needs
-
 returns-4 : tie.Need-returns-4
-unfolding callOf callOfTask
-returns-4 c =
-    let w = c .before .before in
-    let f = w .before .before .before in
-    let e = release-tried f in
-    let d = slot-tried e in
-    rw (no-slot d, no-release e, no-finish f, sym (w .before .begins-with .ensures) ∙ w .if2 .taken)
-    (c .join-fields .ensures ∙ ap joinOf (part (d .before .before .before .before .args .line .now) 5))
+returns-4 c = sym (joins (c .before .before .before) ∙ rw (sym (c .before .begins-with .ensures) ∙ not-true _ (c .if2 .taken)))
+
+sub-three-numbers : tie.Need-sub-three-numbers
+sub-three-numbers c = join-fits c
+
+part-three-numbers-start : tie.Need-part-three-numbers-start
+part-three-numbers-start c = join-fits c
+
+part-three-numbers-end : tie.Need-part-three-numbers-end
+part-three-numbers-end c = search needs
+
+three-numbers-requires : tie.Need-three-numbers-requires
+three-numbers-requires c κs = search needs
+
+enum-known-period : tie.Need-enum-known-period
+enum-known-period c = search needs
+
+enum-told-3 : tie.Need-enum-told-3
+enum-told-3 c = search needs
 
 returns-5 : tie.Need-returns-5
-unfolding callOf callOfTask
-returns-5 c =
-    let f = c .before .before .before in
-    let e = release-tried f in
-    rw (no-slot (slot-tried e), no-release e, no-finish f, sym (c .before .begins-with .ensures) ∙ c .if2 .left)
+unfolding joinOf
+returns-5 c = sym (join-is (c .before .before) ∙ ap joinOf (c .enum-told3 .given .1))
+
+returns-6 : tie.Need-returns-6
+unfolding joinOf
+returns-6 c = sym (join-is (c .before .before .before) ∙ ap joinOf (c .before .period .given .1))
 
 pub call-line-spec : {M : Type 1} → statement M
 call-line-spec =
@@ -132,21 +142,24 @@ call-line-spec =
     slice-aggregate-same
     same-requires
     returns
-    slice-aggregate-numbered-line
-    numbered-line-requires
+    slice-aggregate-number-after
+    number-after-requires
     enum-known-number
     returns-2
     enum-told
-    slice-aggregate-numbered-line-2
-    numbered-line-requires-2
+    slice-aggregate-number-after-2
+    number-after-requires-2
     enum-known-number-2
     returns-3
     enum-told-2
     slice-aggregate-begins-with
     begins-with-requires
-    sub-join-fields
-    part-join-fields-start
-    part-join-fields-end
-    join-fields-requires
     returns-4
-    returns-5)
+    sub-three-numbers
+    part-three-numbers-start
+    part-three-numbers-end
+    three-numbers-requires
+    enum-known-period
+    enum-told-3
+    returns-5
+    returns-6)

@@ -6,7 +6,7 @@ use mathlib.Core.Path.{_≡_, sym, _∙_}
 use borrow.Author.Needs.{needs}
 use lib.ListN.{length}
 use lib.Seq.{length-take-le}
-use Rattle.replay.proofs.CallLaws.{Looking, looking-none, looked-all, not-ended, line-fits, looked-here, looking-more}
+use Rattle.replay.proofs.CallsStart.{Looking, looking-none, looked-all, not-ended, line-fits, looked-here, looking-more}
 use Rattle.replay.proofs.calls.find_calls.Statement.{statement}
 use Rattle.replay.proofs.calls.find_calls.Tie as tie
 

@@ -1,7 +1,8 @@
 -- `put_answer` meets its contract: by the outcome, and then by the call.
+use native.Mathlib.Omega.{arith}
+use Rattle.replay.specs.Output.{acceptedLine, outcomeLine, answerLine, answerRoom}
+use Rattle.replay.proofs.OutputLaws.{refused-put, done-line, done-put}
 use borrow.Author.Needs.{needs}
-use Rattle.replay.specs.Output.{acceptedLine, outcomeLine, answerLine}
-use Rattle.replay.proofs.OutputLaws.{done-line, done-put, line-longer}
 use Rattle.replay.proofs.output.put_answer.Statement.{statement}
 use Rattle.replay.proofs.output.put_answer.Tie as tie
 
@@ -18,7 +19,7 @@ returns : tie.Need-returns
 unfolding answerLine outcomeLine
 returns c =
     let p = c .before .before in
-    rw (p .before .before .before .outcome .given .1) (line-longer _ _ _ _ _ (p .put-refused .ensures))
+    rw (p .before .before .before .outcome .given .1) (refused-put answerRoom (omega arith) _ _ _ _ _ (search needs) (p .put-refused .ensures))
 
 enum-told : tie.Need-enum-told
 enum-told c = search needs

@@ -1,9 +1,6 @@
--- `put_bad_line` meets its contract: the word, and the number with its byte 10.
-use native.Mathlib.Omega.{arith}
+-- `put_bad_line` meets its contract: the word, and a line of one number.
+use Rattle.replay.proofs.OutputLaws.{bad-put}
 use borrow.Author.Needs.{needs}
-use Rattle.replay.specs.Words.{badLineWord}
-use Rattle.replay.specs.Output.{badLine}
-use Rattle.replay.proofs.OutputLaws.{numbered-line}
 use Rattle.replay.proofs.output.put_bad_line.Statement.{statement}
 use Rattle.replay.proofs.output.put_bad_line.Tie as tie
 
@@ -13,18 +10,19 @@ slice-aggregate-put c = search needs
 put-requires : tie.Need-put-requires
 put-requires c κs = search needs
 
-put-number-requires : tie.Need-put-number-requires
-put-number-requires c κs = search needs
+slice-aggregate-put-numbers : tie.Need-slice-aggregate-put-numbers
+slice-aggregate-put-numbers c = search needs
+
+put-numbers-requires : tie.Need-put-numbers-requires
+put-numbers-requires c κs = search needs
 
 same-length : tie.Need-same-length
 same-length c = search needs
 
 returns : tie.Need-returns
-unfolding badLine
 returns c =
     let n = c .before .before in
-    let p = n .before .before .before .before in
-    numbered-line badLineWord (omega arith) _ _ _ _ _ _ _ (search needs) (p .put .ensures) (n .put-number .ensures)
+    bad-put _ _ _ _ _ _ _ (search needs) (n .before .before .before .before .before .put .ensures) (n .put-numbers .ensures)
 
 pub put-bad-line-spec : {M : Type 1} → statement M
 put-bad-line-spec =
@@ -32,6 +30,7 @@ put-bad-line-spec =
     (tie.spec
     slice-aggregate-put
     put-requires
-    put-number-requires
+    slice-aggregate-put-numbers
+    put-numbers-requires
     same-length
     returns)

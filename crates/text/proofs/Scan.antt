@@ -1,0 +1,137 @@
+-- Laws of `has`, `before` and `after`. Others cite `here` (a byte is in a text: the text in three parts), `gone` (it is not), and `Passed`
+-- with its laws (a scan has passed the first bytes of a text and not met it).
+use Prim.Native.Nat.{ℕ, suc, _+_, _≤_, _<_}
+use native.Mathlib.Nat.{lt-irrefl, not-le-of-lt}
+use native.Mathlib.Numerals.{add-one}
+use native.Mathlib.Omega.{arith}
+use mathlib.Core.Path.{_≡_, refl, sym, ap, _∙_}
+use mathlib.Core.Bool.{true, false, false≢true}
+use mathlib.Core.List.{List, [], _∷_, _++_, append-nil}
+use lib.Dec.{eqb}
+use lib.ListN.{length, getD, take, drop, length-append, drop-of-length-le}
+use lib.Seq.{drop-cons, take-suc, length-take-le, take-append-seam, drop-append-add, append-snoc}
+use borrow.Author.Tests.{eq-eqb, ne-eqb, eqb-true}
+use Rattle.laws.proofs.CaseSplits.{by-test}
+use Rattle.laws.proofs.Parts.{past, from-drop}
+use Rattle.text.specs.Lines.{has, before, after}
+
+-- b is in s: what stands before it and after it
+pub record Here (b : ℕ) (s : List ℕ) : Type 0 where
+  pub whole : s ≡ before b s ++ b ∷ after b s
+  pub within : length (before b s) < length s
+  pub front : take (length (before b s)) s ≡ before b s
+  pub rest : drop (length (before b s) + 1) s ≡ after b s
+
+whole-of : (b : ℕ) (s : List ℕ) → has b s ≡ true → s ≡ before b s ++ b ∷ after b s
+unfolding has before after
+whole-of b [] h = absurd (false≢true h)
+whole-of b (x ∷ s) h =
+    by-test (eqb x b)
+    (λ e. rw e (ap (λ (y : ℕ). y ∷ s) (eqb-true x b e)))
+    (λ e. rw e (ap (λ (l : List ℕ). x ∷ l) (whole-of b s (rw e at h))))
+
+pub here : (b : ℕ) (s : List ℕ) → has b s ≡ true → Here b s
+here b s h =
+    let w = whole-of b s h in
+    record {
+      whole = w;
+      within = within-of (before b s) (after b s) w;
+      front = front-of (before b s) (after b s) w;
+      rest = rest-of (before b s) (after b s) w;
+    }
+  where
+    within-of : (f r : List ℕ) → s ≡ f ++ b ∷ r → length f < length s
+    within-of f r e = omega (arith, simp length-append at (ap length e))
+
+    front-of : (f r : List ℕ) → s ≡ f ++ b ∷ r → take (length f) s ≡ f
+    front-of f r e = rw e (take-append-seam f (b ∷ r))
+
+    rest-of : (f r : List ℕ) → s ≡ f ++ b ∷ r → drop (length f + 1) s ≡ r
+    rest-of f r e = rw e (drop-append-add f (b ∷ r) 1)
+
+-- b is not in s: all of s stands before it
+pub gone : (b : ℕ) (s : List ℕ) → has b s ≡ false → before b s ≡ s
+unfolding has before
+gone b [] h = refl
+gone b (x ∷ s) h =
+    by-test (eqb x b) (λ e. absurd (false≢true (sym (rw e at h)))) (λ e. rw e (ap (λ (l : List ℕ). x ∷ l) (gone b s (rw e at h))))
+
+pub gone-rest : (b : ℕ) (s : List ℕ) → has b s ≡ false → after b s ≡ []
+unfolding has after
+gone-rest b [] h = refl
+gone-rest b (x ∷ s) h = by-test (eqb x b) (λ e. absurd (false≢true (sym (rw e at h)))) (λ e. rw e (gone-rest b s (rw e at h)))
+
+-- the first i bytes of s are no b
+pub record Passed (b : ℕ) (s : List ℕ) (i : ℕ) : Type 0 where
+  pub within : i ≤ length s
+  pub there : has b s ≡ has b (drop i s)
+  pub front : before b s ≡ take i s ++ before b (drop i s)
+
+pub passed-none : (b : ℕ) (s : List ℕ) → Passed b s 0
+passed-none b s = record { within = omega arith; there = refl; front = refl }
+
+-- a byte that is no b
+pub has-other : (b x : ℕ) (s : List ℕ) → (x ≡ b → ⊥) → has b (x ∷ s) ≡ has b s
+unfolding has
+has-other b x s n = rw (ne-eqb x b n)
+
+pub before-other : (b x : ℕ) (s : List ℕ) → (x ≡ b → ⊥) → before b (x ∷ s) ≡ x ∷ before b s
+unfolding before
+before-other b x s n = rw (ne-eqb x b n)
+
+pub passed-more : (b : ℕ) (s : List ℕ) (i : ℕ) → Passed b s i → i < length s → (getD s i 0 ≡ b → ⊥) → Passed b s (i + 1)
+passed-more b s i p h n =
+    record {
+      within = omega arith;
+      there = p .there ∙ rw (add-one, drop-cons s i 0 h) (has-other b (getD s i 0) (drop (suc i) s) n);
+      front =
+          p .front
+          ∙ rw (add-one, drop-cons s i 0 h, before-other b (getD s i 0) (drop (suc i) s) n, take-suc s i 0 h)
+          (sym (append-snoc (take i s) (getD s i 0) (before b (drop (suc i) s))));
+    }
+
+-- where the scan meets b
+pub record Met (b : ℕ) (s : List ℕ) (i : ℕ) : Type 0 where
+  pub is : has b s ≡ true
+  pub front : before b s ≡ take i s
+  pub count : length (before b s) ≡ i
+
+pub met : (b : ℕ) (s : List ℕ) (i : ℕ) → Passed b s i → i < length s → getD s i 0 ≡ b → Met b s i
+unfolding has before
+met b s i p h e =
+    let f : before b s ≡ take i s = p .front ∙ rw (drop-cons s i 0 h, eq-eqb (getD s i 0) b e) (append-nil (take i s)) in
+    record {
+      is = p .there ∙ rw (drop-cons s i 0 h, eq-eqb (getD s i 0) b e);
+      front = f;
+      count = ap length f ∙ length-take-le i s (omega arith);
+    }
+
+-- where it comes to the end of the text
+pub missed : (b : ℕ) (s : List ℕ) (i : ℕ) → Passed b s i → length s ≤ i → has b s ≡ false
+unfolding has
+missed b s i p h = p .there ∙ rw (drop-of-length-le s h)
+
+pub missed-count : (b : ℕ) (s : List ℕ) (i : ℕ) → Passed b s i → length s ≤ i → length (before b s) ≡ i
+missed-count b s i p h = omega (arith, ap length (gone b s (missed b s i p h)))
+
+-- by how many bytes stand before b: fewer than there are, or all
+pub has-of : (b : ℕ) (s : List ℕ) → length (before b s) < length s → has b s ≡ true
+has-of b s h = by-test (has b s) (λ e. e) (λ e. absurd (lt-irrefl (length s) (rw (gone b s e) at h)))
+
+pub hasnt-of : (b : ℕ) (s : List ℕ) → length s ≤ length (before b s) → has b s ≡ false
+hasnt-of b s h = by-test (has b s) (λ e. absurd (not-le-of-lt (here b s e .within) h)) (λ e. e)
+
+-- the parts of a slice on either side of a byte that was found at r, as the code has them
+pub record Cut (b : ℕ) (s : List ℕ) (r : ℕ) : Type 0 where
+  pub is : has b s ≡ true
+  pub front : take r s ≡ before b s
+  pub rest : past s r ≡ after b s
+
+pub cut : (b : ℕ) (s : List ℕ) (r : ℕ) → r ≡ length (before b s) → r < length s → Cut b s r
+cut b s r e h =
+    let i : has b s ≡ true = has-of b s (rw e at h) in
+    record {
+      is = i;
+      front = rw e (here b s i .front);
+      rest = from-drop s (r + 1) ∙ rw e (here b s i .rest);
+    }

@@ -1,0 +1,49 @@
+-- `find` meets its contract. The invariant: the bytes so far are not the one looked for.
+use Prim.Native.Nat.{_-_}
+use mathlib.Core.Path.{sym}
+use native.Mathlib.Omega.{arith}
+use lib.ListN.{length}
+use Rattle.text.proofs.Scan.{Passed, passed-none, passed-more, met, missed-count}
+use Rattle.text.proofs.bytes.find.Statement.{statement}
+use Rattle.text.proofs.bytes.find.Tie as tie
+
+abbrev Inv-loop : tie.InvT-loop
+Inv-loop text byte i₀ i = Passed byte text i
+
+abbrev μ-loop : tie.MeasureT-loop
+μ-loop text byte i₀ i = length text - i
+
+loop-holds : tie.Need-loop-holds Inv-loop μ-loop
+loop-holds c = passed-none _ _
+
+shared-slice-read-if1 : tie.Need-shared-slice-read-if1 Inv-loop μ-loop
+shared-slice-read-if1 c = omega arith
+
+returns : tie.Need-returns Inv-loop μ-loop
+returns c = sym (met _ _ _ (c .before .before .before .loop .inv) (c .before .before .loop-test .taken) (c .if1 .taken) .count)
+
+add-i : tie.Need-add-i Inv-loop μ-loop
+add-i c = omega arith
+
+loop-less : tie.Need-loop-less Inv-loop μ-loop
+loop-less c = omega arith
+
+loop-again : tie.Need-loop-again Inv-loop μ-loop
+loop-again c = passed-more _ _ _ (c .before .before .before .loop .inv) (c .before .before .loop-test .taken) (c .if1 .left)
+
+returns-2 : tie.Need-returns-2 Inv-loop μ-loop
+returns-2 c = sym (missed-count _ _ _ (c .before .loop .inv) (c .loop-test .left))
+
+pub find-spec : {M : Type 1} → statement M
+find-spec =
+    tie.close
+    (tie.spec
+    Inv-loop
+    μ-loop
+    loop-holds
+    shared-slice-read-if1
+    returns
+    add-i
+    loop-less
+    loop-again
+    returns-2)

@@ -1,0 +1,27 @@
+-- Lines of three fields: document 01, "The table as text".
+use Prim.Native.Nat.{ℕ, _+_}
+use mathlib.Core.List.{List}
+use mathlib.Core.Bool.{Bool, cond, _&&_}
+use lib.Dec.{eqb}
+use lib.ListN.{length}
+use Rattle.text.specs.Lines.{fieldCount, field}
+use Rattle.text.specs.Number.{isNumber, decimal}
+use Rattle.text.specs.declared.fields.Fields.{Fields}
+use Rattle.text.specs.declared.fields.Fields.the-variants as Fields
+use Rattle.text.specs.declared.fields.Numbers.{Numbers}
+use Rattle.text.specs.declared.fields.Numbers.the-variants as Numbers
+
+-- where the first and the second field of a line of three end, counted in bytes from the line's start
+unfoldable pub threeFields : List ℕ → Fields
+threeFields l =
+    cond (eqb (fieldCount l) 3) (Fields.Three (length (field 0 l)) (length (field 0 l) + 1 + length (field 1 l))) Fields.Other
+
+-- whether a line is three numbers, each of at most so many digits and at most `largest`
+unfoldable pub areThree : (digits largest : ℕ) → List ℕ → Bool
+areThree digits largest l =
+    eqb (fieldCount l) 3 && isNumber digits largest (field 0 l) && isNumber digits largest (field 1 l) && isNumber digits largest (field 2 l)
+
+-- the three numbers that a line is
+unfoldable pub threeNumbers : (digits largest : ℕ) → List ℕ → Numbers
+threeNumbers digits largest l =
+    cond (areThree digits largest l) (Numbers.Three (decimal (field 0 l)) (decimal (field 1 l)) (decimal (field 2 l))) Numbers.Broken

@@ -1,0 +1,46 @@
+// Bytes of a text: where one is, what a text begins with, and whether two texts are the same.
+ghost use mathlib.Core.Path.{_≡_};
+ghost use lib.ListN.{length};
+ghost use Rattle.text.specs.Lines.{before};
+ghost use Rattle.text.specs.Words.{sameBytes, beginsWith};
+
+// How many bytes stand before the first such byte: all of them where there is none.
+pub fn find(text: &[u8], byte: u8) -> usize
+    ensures { λ r. ⌜ r ≡ length (before byte (now (text .entry))) ⌝ }
+{
+    let mut i: usize = 0;
+    while i < text.len() {
+        if text[i] == byte {
+            return i;
+        }
+        i += 1;
+    }
+    i
+}
+
+// Whether a text begins with a word.
+pub fn begins_with(text: &[u8], word: &[u8]) -> bool
+    ensures { λ r. ⌜ r ≡ beginsWith (now (word .entry)) (now (text .entry)) ⌝ }
+{
+    if text.len() < word.len() {
+        return false;
+    }
+    let mut i: usize = 0;
+    while i < word.len() {
+        if text[i] != word[i] {
+            return false;
+        }
+        i += 1;
+    }
+    true
+}
+
+// Whether two texts have the same bytes.
+pub fn same(a: &[u8], b: &[u8]) -> bool
+    ensures { λ r. ⌜ r ≡ sameBytes (now (a .entry)) (now (b .entry)) ⌝ }
+{
+    if a.len() != b.len() {
+        return false;
+    }
+    begins_with(a, b)
+}

@@ -1,0 +1,71 @@
+-- `put_printed` meets its contract: by the outcome of reading the text, and there is room for what is put.
+use Prim.Native.Nat.{min}
+use native.Mathlib.Omega.{arith}
+use mathlib.Core.Path.{_≡_, ap}
+use mathlib.Core.List.{_++_}
+use lib.ListN.{length}
+use Rattle.text.specs.Output.{refusedLine}
+use Rattle.text.proofs.Putting.{put-all}
+use Rattle.tasks.specs.Limits.{maxCores}
+use Rattle.verdict.specs.Printed.{header, verdictLines, printedAfter, printed}
+use Rattle.verdict.proofs.PrintedFew.{printed-few}
+use borrow.Author.Needs.{needs}
+use Rattle.verdict.proofs.lines.put_printed.Statement.{statement}
+use Rattle.verdict.proofs.lines.put_printed.Tie as tie
+
+read-requires : tie.Need-read-requires
+read-requires c κs = search needs
+
+enum-known-outcome : tie.Need-enum-known-outcome
+enum-known-outcome c = search needs
+
+put-refused-requires : tie.Need-put-refused-requires
+put-refused-requires c κs = search needs
+
+same-length : tie.Need-same-length
+same-length c = search needs
+
+returns : tie.Need-returns
+unfolding printed printedAfter
+returns c =
+    let p = c .before .before in
+    let o = p .before .before .before in
+    let r = o .before .before in
+    let s = r .before .before .before in
+    let e : printed (s .args .text .now) ≡ refusedLine (o .outcome .given .0 .0) = rw (← r .read .ensures, o .outcome .given .1) in
+    rw e (put-all _ _ _ _ (p .put-refused .ensures) (omega (arith, printed-few (s .args .text .now), ap length e, s .pre)))
+
+enum-told : tie.Need-enum-told
+enum-told c = search needs
+
+put-lines-requires : tie.Need-put-lines-requires
+put-lines-requires c κs = search needs
+
+same-length-2 : tie.Need-same-length-2
+same-length-2 c = search needs
+
+returns-2 : tie.Need-returns-2
+unfolding printed printedAfter
+returns-2 c =
+    let p = c .before .before in
+    let o = p .before .before .before in
+    let r = o .before .before in
+    let s = r .before .before .before in
+    let e : printed (s .args .text .now) ≡ header ++ verdictLines (r .read .result .table) (min maxCores (r .read .result .table .count)) =
+    rw (← r .read .ensures, o .enum-told .given .1)
+    in
+    rw e (put-all _ _ _ _ (p .put-lines .ensures) (omega (arith, printed-few (s .args .text .now), ap length e, s .pre)))
+
+pub put-printed-spec : {M : Type 1} → statement M
+put-printed-spec =
+    tie.close
+    (tie.spec
+    read-requires
+    enum-known-outcome
+    put-refused-requires
+    same-length
+    returns
+    enum-told
+    put-lines-requires
+    same-length-2
+    returns-2)
