@@ -3,16 +3,16 @@
 -- `least-past-idle`, `reached-rival` and `reached-end`.
 use Prim.Native.Nat.{ℕ, suc, _≤_, _<_}
 use mathlib.Core.Path.{_≡_}
-use mathlib.Core.Bool.{true, false}
+use mathlib.Core.Bool.{true, false, and-false}
 use mathlib.Core.List.{List}
 use native.Mathlib.Omega.{arith}
-use lib.Dec.{eqb}
 use lib.ListN.{getD, length}
 use borrow.Author.Tests.{lt-ltb, le-ltb, ltb-true, ltb-false, ne-eqb}
-use Rattle.laws.proofs.CaseSplits.{by-order, by-equal, by-test, not-both}
-use Rattle.job.specs.Search.{nextRunner}
+use Rattle.laws.proofs.CaseSplits.{by-order, not-both}
+use Rattle.laws.proofs.Below.{up}
+use Rattle.job.specs.Search.{isNext, nextRunner}
 use Rattle.job.specs.Rank.{never, waits, rankPrecedes, ranked}
-use Rattle.job.proofs.Next.{up, Behind, is-next, idle-not-next, preceded-not-next, first-next, none-next}
+use Rattle.job.proofs.Next.{Behind, is-next, preceded-not-next, first-next, none-next}
 
 -- What the tests on ranks say.
 pub idle-rank : (r : ℕ) → waits r ≡ false → never ≤ r
@@ -33,7 +33,7 @@ unfolding rankPrecedes
 not-preceded x i y j le tie =
     rw (le-ltb x y le)
     (by-order j i
-    (λ h. by-equal x y (λ e. rw (le-ltb i j h) (by-test (eqb x y) (λ p. rw p) (λ p. rw p))) (λ ne. rw (ne-eqb x y ne)))
+    (λ h. rw (le-ltb i j h, and-false))
     (λ h. rw (ne-eqb x y (λ e. omega (arith, tie h)))))
 
 -- A later task precedes only by a smaller rank.
@@ -125,5 +125,5 @@ module _ (l : List ℕ) where
       preceded-not-next (ranked l) j i (found .inside) (waits-at i (found .waits)) (smaller-precedes _ i _ j (found .first j h)))
 
   pub none-is-next : NoneRanked l (length l) → nextRunner (ranked l) ≡ 0
-  unfolding ranked waits
-  none-is-next none = none-next (ranked l) (λ j h. idle-not-next (ranked l) j (le-ltb _ never (none j h)))
+  unfolding ranked waits isNext
+  none-is-next none = none-next (ranked l) (λ j h. rw (le-ltb (getD l j 0) never (none j h)))
