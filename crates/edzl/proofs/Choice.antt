@@ -10,7 +10,8 @@ use Rattle.edzl.specs.Sums.{sumTo, bit}
 use Rattle.edzl.specs.Window.{mayTurnUrgent, countUrgent}
 use Rattle.laws.proofs.CaseSplits.{by-order, by-test}
 use Rattle.edzl.proofs.SumLaws.{sum-strict, bit-true, bit-false, bit-monotone}
-use Rattle.edzl.proofs.Invariant.{Jobs, Invariant, urgent-counted}
+use Rattle.edzl.proofs.Invariant.{Jobs, Invariant}
+use Rattle.edzl.proofs.BoundLaws.{urgent-counted}
 
 -- x goes before y: x is urgent and y is not, or both are alike in urgency and x has fewer slots to its deadline.
 pub data Beats (jobs : Jobs) (x y : ℕ) : Type 0 where

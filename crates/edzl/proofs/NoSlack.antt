@@ -13,7 +13,8 @@ use Rattle.edzl.proofs.Release.{Released, release-keeps}
 use Rattle.edzl.proofs.Finish.{Finished, finish-keeps}
 use Rattle.edzl.proofs.Join.{Joined, join-keeps, no-slack-shrinks}
 use Rattle.edzl.proofs.Choice.{UrgentRun, urgent-runs}
-use Rattle.edzl.proofs.Slot.{Slotted, slot-keeps, owes-in-time}
+use Rattle.edzl.proofs.Slot.{Slotted}
+use Rattle.edzl.proofs.SlotKeeps.{slot-keeps, owes-in-time}
 
 -- The invariant with no slack.
 abbrev pub Safe : TaskSet → (m : ℕ) → Jobs → Type 0

@@ -1,4 +1,5 @@
--- Laws of the window test. Others cite: `count-same` and `admitted-same`, that it reads the tasks below the count only; and `admitted-few`.
+-- Laws of the window test. Others cite: `SameTask`, that two sets agree on a task, with `same-task`; `count-same` and `admitted-same`, that the
+-- test reads the tasks below the count only; and `admitted-few`.
 use Prim.Native.Nat.{ℕ, _≤_, _<_}
 use mathlib.Core.Path.{_≡_, refl, ap, _∙_}
 use mathlib.Core.Bool.{true}
@@ -13,6 +14,9 @@ pub record SameTask (shorter longer : TaskSet) (i : ℕ) : Type 0 where
   pub same-period : longer .period i ≡ shorter .period i
   pub same-budget : longer .budget i ≡ shorter .budget i
   pub same-deadline : longer .deadline i ≡ shorter .deadline i
+
+pub same-task : (tasks : TaskSet) (i : ℕ) → SameTask tasks tasks i
+same-task tasks i = record { same-period = refl; same-budget = refl; same-deadline = refl }
 
 module _
     (tasks tasks' : TaskSet)
