@@ -60,43 +60,47 @@ module _
     all-busy : (k : ℕ) → k < tasks .count → before .isOpen k ≡ true → ran k ≡ false → m ≤ sumTo (tasks .count) (λ i. bit (ran i))
     all-busy k h o idle = ⊎-elim (λ full. full) (λ all. not-both (ran k) (all k h o) idle) (step .choice .enough)
 
-    module _ (k : ℕ) (h : k < tasks .count) (o : before .isOpen k ≡ true) (still : StillOpen ran before after k) where
-      passes : (i : ℕ) → i < tasks .count → claim tasks after (after .left k) i ≤ claim tasks before (before .left k) i
-      passes i l =
-          let s = inv .shape k h .while-open o in
-          rw (still .now-left) (claim-passes tasks slack m well ran before after step inv i l (before .left k) (s .left-some))
+    -- A job k that goes on.
+    module _
+        (k : ℕ)
+        (h : k < tasks .count)
+        (o : before .isOpen k ≡ true)
+        (owes : 1 ≤ before .budget k - bit (ran k))
+        (more : 1 ≤ before .left k - 1)
+        (still : StillOpen ran before after k)
+      where
+        passes : (i : ℕ) → i < tasks .count → claim tasks after (after .left k) i ≤ claim tasks before (before .left k) i
+        passes i l = rw (still .now-left) (claim-passes tasks slack m well ran before after step inv i l (before .left k) (omega arith))
 
-      lost-run : ran k ≡ true → lost tasks after k ≡ lost tasks before k
-      unfolding lost
-      lost-run runs =
-          let s = inv .shape k h .while-open o in
-          omega (arith, bit-true (ran k) runs)
+        lost-run : ran k ≡ true → lost tasks after k ≡ lost tasks before k
+        unfolding lost
+        lost-run runs = omega (arith, bit-true (ran k) runs)
 
-      lost-idle : ran k ≡ false → 0 < lost tasks after k → lost tasks after k ≡ lost tasks before k + 1
-      unfolding lost
-      lost-idle idle some =
-          let s = inv .shape k h .while-open o in
-          omega (arith, bit-false (ran k) idle)
+        lost-idle : ran k ≡ false → 0 < lost tasks after k → lost tasks after k ≡ lost tasks before k + 1
+        unfolding lost
+        lost-idle idle some = omega (arith, bit-false (ran k) idle)
 
-      module _ (idle : ran k ≡ false) (loses : lost tasks after k ≡ lost tasks before k + 1) where
-        runner-uses : (i : ℕ) → i < tasks .count → (i ≡ k → ⊥) → ran i ≡ true → used tasks slack before k i + 1 ≤ used tasks slack after k i
+        -- Where it loses a slot, each runner uses one slot more of its allowance.
+        used-more : ran k ≡ false →
+            lost tasks after k ≡ lost tasks before k + 1 →
+            (i : ℕ) →
+            i < tasks .count →
+            (i ≡ k → ⊥) →
+            used tasks slack before k i + bit (ran i) ≤ used tasks slack after k i
         unfolding used
-        runner-uses i l ne runs =
-            let s = inv .shape k h .while-open o in
-            let reaches = runner-reaches k i h l o idle runs in
-            let falls = claim-falls tasks slack m well ran before after step inv i l (before .left k) (s .left-some) runs reaches in
-            rw (still .now-left, loses) (omega (arith, inv .bound k h o .claims i l ne))
-
-        -- Each runner uses one slot more of its allowance.
-        used-more : (i : ℕ) → i < tasks .count → (i ≡ k → ⊥) → used tasks slack before k i + bit (ran i) ≤ used tasks slack after k i
-        unfolding used
-        used-more i l ne =
+        used-more idle loses i l ne =
             by-test (ran i)
-            (λ runs. rw (bit-true (ran i) runs) (runner-uses i l ne runs))
+            (λ runs.
+            let reaches = runner-reaches k i h l o idle runs in
+            let falls = claim-falls tasks slack m well ran before after step inv i l (before .left k) (omega arith) runs reaches in
+            rw (bit-true (ran i) runs, still .now-left, loses) (omega (arith, inv .bound k h o .claims i l ne)))
             (λ rests. rw (loses, bit-false (ran i) rests) (omega (arith, passes i l)))
 
-        paid-more : m * lost tasks after k ≤ sumTo (tasks .count) (others k (used tasks slack after k))
-        paid-more =
+        paid-idle : ran k ≡ false → m * lost tasks after k ≤ sumTo (tasks .count) (others k (used tasks slack after k))
+        paid-idle idle =
+            by-order 1 (lost tasks after k)
+            (λ some.
+            let loses = lost-idle idle some in
             rw loses
             (omega (
               arith,
@@ -104,27 +108,22 @@ module _
               others-gain (used tasks slack before k) (λ i. bit (ran i)) (used tasks slack after k) k (tasks .count) m
                   (all-busy k h o idle)
                   (bit-false (ran k) idle)
-                  used-more,
-            ))
+                  (used-more idle loses),
+            )))
+            (λ nothing.
+            let e : lost tasks after k ≡ 0 = omega arith in
+            rw e (omega arith))
 
-      paid-idle : ran k ≡ false → m * lost tasks after k ≤ sumTo (tasks .count) (others k (used tasks slack after k))
-      paid-idle idle =
-          by-order 1 (lost tasks after k)
-          (λ some. paid-more idle (lost-idle idle some))
-          (λ nothing.
-          let e : lost tasks after k ≡ 0 = omega arith in
-          rw e (omega arith))
-
-      -- If k ran it lost nothing, and if it was idle the runners used what it lost.
-      bound-still : Bound tasks slack m after k
-      bound-still =
-          by-test (ran k)
-          (λ runs. bound-kept tasks slack m before after k (lost-run runs) (λ i l ne. passes i l) (inv .bound k h o))
-          (λ idle.
-          record {
-            claims = λ i l ne. le-trans (passes i l) (inv .bound k h o .claims i l ne);
-            paid = paid-idle idle;
-          })
+        -- If k ran it lost nothing, and if it was idle the runners used what it lost.
+        bound-still : Bound tasks slack m after k
+        bound-still =
+            by-test (ran k)
+            (λ runs. bound-kept tasks slack m before after k (lost-run runs) (λ i l ne. passes i l) (inv .bound k h o))
+            (λ idle.
+            record {
+              claims = λ i l ne. le-trans (passes i l) (inv .bound k h o .claims i l ne);
+              paid = paid-idle idle;
+            })
 
     pub slot-keeps : Invariant tasks slack m after
     slot-keeps =
@@ -134,6 +133,6 @@ module _
         elim (way (step .effect i h)) [
           | went-on o owes more still ↦
               let s = inv .shape i h .while-open o in
-              held-open gap-fits (still .still-open) (omega arith) (omega (arith, owes-in-time i h o)) (bound-still i h o still)
+              held-open gap-fits (still .still-open) (omega arith) (omega (arith, owes-in-time i h o)) (bound-still i h o owes more still)
           | no-job none ↦ held-closed gap-fits none
         ]

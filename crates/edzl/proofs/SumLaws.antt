@@ -9,6 +9,7 @@ use Rattle.edzl.specs.Sums.{sumTo, bit}
 use Rattle.edzl.specs.Window.{others}
 use Rattle.laws.proofs.CaseSplits.{by-equal, by-test}
 use Rattle.laws.proofs.Below.{down}
+use Rattle.laws.proofs.Steps.{by-steps}
 
 module _ (f g : ℕ → ℕ) where
   -- Functions that agree below n have the same sum.
@@ -35,11 +36,7 @@ sum-gain f g h n m given each =
 -- More terms, no smaller sum.
 pub sum-longer : (f : ℕ → ℕ) (n p : ℕ) → n ≤ p → sumTo n f ≤ sumTo p f
 unfolding sumTo
-sum-longer f n zero h =
-    let e : n ≡ 0 = omega arith in
-    rw e (le-refl _)
-sum-longer f n (suc p) h =
-    by-equal n (suc p) (λ e. rw e (le-refl _)) (λ ne. omega (arith, sum-longer f n p (omega arith)))
+sum-longer f = by-steps (λ n. sumTo n f) (λ n. omega arith)
 
 -- n terms, each at most b.
 pub sum-bound : (f : ℕ → ℕ) (b n : ℕ) → ((i : ℕ) → i < n → f i ≤ b) → sumTo n f ≤ n * b

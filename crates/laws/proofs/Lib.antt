@@ -2,5 +2,6 @@ pub mod CaseSplits
 pub mod Booleans
 pub mod Tests
 pub mod Below
+pub mod Steps
 pub mod Replaced
 pub mod Lengths
