@@ -1,7 +1,7 @@
 -- The bound of a job. Others cite: `claim-open` and `claim-closed`, a claim by the task's state; `claim-start`, a claim where all of the window is
 -- ahead; `lost-bound` and `urgent-counted`, that a task whose job is urgent is one of those that the window test counts; `bound-moved` and
 -- `bound-kept`, where a step keeps the bound; and `held-same` and `claim-same`, of a task that a step leaves alone.
-use Prim.Native.Nat.{ℕ, _+_, _*_, _-_, _≤_, _<_, min}
+use Prim.Native.Nat.{ℕ, _+_, _*_, _-_, _≤_, _<_}
 use mathlib.Core.Path.{_≡_, sym, _∙_}
 use mathlib.Core.Bool.{true, false}
 use native.Mathlib.Nat.{le-refl, le-trans}
@@ -10,7 +10,6 @@ use borrow.Author.Tests.{le-leb}
 use Rattle.edzl.specs.TaskSet.{TaskSet}
 use Rattle.edzl.proofs.WellFormed.{TaskFits}
 use Rattle.edzl.specs.Window.{interference, spare, others, windowSum, mayTurnUrgent}
-use Rattle.edzl.specs.Sums.{sumTo}
 use Rattle.laws.proofs.CaseSplits.{by-order, by-test}
 use Rattle.edzl.proofs.SumLaws.{sum-longer, others-monotone}
 use Rattle.edzl.proofs.WindowLaws.{SameTask}
@@ -100,34 +99,28 @@ bound-kept tasks slack m before after k same less bound =
     bound
 
 -- A task that a step leaves alone: its numbers and its job are as they were.
-module _
-    (tasks tasks' : TaskSet)
-    (before after : Jobs)
-    (i : ℕ)
-    (task : SameTask tasks tasks' i)
-    (job : SameJob before after i)
-  where
-    pub claim-same : (l : ℕ) → claim tasks' after l i ≡ claim tasks before l i
-    unfolding claim
-    claim-same l =
-        rw (task .same-period, task .same-budget, task .same-deadline, job .same-open, job .same-left, job .same-budget, job .same-gap)
+module _ (tasks tasks' : TaskSet) (before after : Jobs) (i : ℕ) (task : SameTask tasks tasks' i) (job : SameJob before after i) where
+  pub claim-same : (l : ℕ) → claim tasks' after l i ≡ claim tasks before l i
+  unfolding claim
+  claim-same l =
+      rw (task .same-period, task .same-budget, task .same-deadline, job .same-open, job .same-left, job .same-budget, job .same-gap)
 
-    pub lost-same : lost tasks' after i ≡ lost tasks before i
-    unfolding lost spare
-    lost-same = rw (task .same-budget, task .same-deadline, job .same-left, job .same-budget)
+  pub lost-same : lost tasks' after i ≡ lost tasks before i
+  unfolding lost spare
+  lost-same = rw (task .same-budget, task .same-deadline, job .same-left, job .same-budget)
 
-    pub held-same : (slack slack' : ℕ → ℕ) (m : ℕ) →
-        (before .isOpen i ≡ true → Bound tasks slack m before i → Bound tasks' slack' m after i) →
-        Held tasks slack m before i →
-        Held tasks' slack' m after i
-    held-same slack slack' m kept held =
-        let gap-fits : after .gap i ≤ tasks' .period i = omega (arith, held .shape .gap-fits) in
-        by-test (after .isOpen i)
-        (λ o.
-        let was-open = sym (job .same-open) ∙ o in
-        let s = held .shape .while-open was-open in
-        held-open gap-fits o (omega arith) (omega (arith, held .in-time was-open)) (kept was-open (held .bound was-open)))
-        (λ c.
-        let none = held .shape .while-closed (sym (job .same-open) ∙ c) in
-        held-closed gap-fits
-        (record { closed = c; left-none = job .same-left ∙ none .left-none; budget-none = job .same-budget ∙ none .budget-none }))
+  pub held-same : (slack slack' : ℕ → ℕ) (m : ℕ) →
+      (before .isOpen i ≡ true → Bound tasks slack m before i → Bound tasks' slack' m after i) →
+      Held tasks slack m before i →
+      Held tasks' slack' m after i
+  held-same slack slack' m kept held =
+      let gap-fits : after .gap i ≤ tasks' .period i = omega (arith, held .shape .gap-fits) in
+      by-test (after .isOpen i)
+      (λ o.
+      let was-open = sym (job .same-open) ∙ o in
+      let s = held .shape .while-open was-open in
+      held-open gap-fits o (omega arith) (omega (arith, held .in-time was-open)) (kept was-open (held .bound was-open)))
+      (λ c.
+      let none = held .shape .while-closed (sym (job .same-open) ∙ c) in
+      held-closed gap-fits
+      (record { closed = c; left-none = job .same-left ∙ none .left-none; budget-none = job .same-budget ∙ none .budget-none }))

@@ -6,7 +6,7 @@ use native.Mathlib.Omega.{arith}
 use Rattle.edzl.specs.TaskSet.{TaskSet}
 use Rattle.edzl.proofs.WellFormed.{WellFormed}
 use Rattle.edzl.proofs.Potential.{finish}
-use Rattle.edzl.proofs.Invariant.{Jobs, NoJob, Invariant, SameJob, claim, held-closed}
+use Rattle.edzl.proofs.Invariant.{Jobs, NoJob, Invariant, RestSame, claim, held-closed}
 use Rattle.edzl.proofs.BoundLaws.{claim-open, claim-closed}
 use Rattle.edzl.proofs.OneJob.{one-job-keeps}
 
@@ -15,19 +15,10 @@ pub record Finished (tasks : TaskSet) (j : ℕ) (before after : Jobs) : Type 0 w
   pub was-open : before .isOpen j ≡ true
   pub ended : NoJob after j
   pub same-gap : after .gap j ≡ before .gap j
-  pub rest : (i : ℕ) → i < tasks .count → (i ≡ j → ⊥) → SameJob before after i
+  pub rest : RestSame tasks j before after
 
-module _
-    (tasks : TaskSet)
-    (slack : ℕ → ℕ)
-    (m : ℕ)
-    (well : WellFormed tasks)
-    (j : ℕ)
-    (j-in : j < tasks .count)
-    (before after : Jobs)
-    (step : Finished tasks j before after)
-    (inv : Invariant tasks slack m before)
-  where
+module _ (tasks : TaskSet) (slack : ℕ → ℕ) (m : ℕ) (well : WellFormed tasks) (j : ℕ) (j-in : j < tasks .count) where
+  module _ (before after : Jobs) (step : Finished tasks j before after) (inv : Invariant tasks slack m before) where
     -- The task claims no more after the finish.
     claim-after : (l : ℕ) → claim tasks after l j ≤ claim tasks before l j
     unfolding WellFormed

@@ -1,6 +1,6 @@
 -- The invariant that keeps every job in time, on the state of the jobs as plain functions of the task's index. Others cite: `Jobs`, `Invariant`
--- and its parts, `Fresh`, `SameJob`; `Held` with `invariant` and `of-task`, that it is shown task by task, and `held-open` and `held-closed`, of a task with a job
--- and of one without; `fresh-starts`, that a fresh state has it; and `in-time-ahead` and `no-slack-fits`, what a release asks, with no slack.
+-- and its parts; `Fresh`, `SameJob`, `RestSame`; `Held`, what it says of one task, with `invariant`, `of-task`, `held-open` and `held-closed`;
+-- `fresh-starts`, that a fresh state has it; and `in-time-ahead` and `no-slack-fits`, what a release asks, where there is no slack.
 use Prim.Native.Nat.{ℕ, _+_, _*_, _-_, _≤_, _<_, min}
 use mathlib.Core.Path.{_≡_}
 use mathlib.Core.Bool.{Bool, true, false, cond}
@@ -88,6 +88,10 @@ pub record SameJob (before after : Jobs) (i : ℕ) : Type 0 where
   pub same-left : after .left i ≡ before .left i
   pub same-budget : after .budget i ≡ before .budget i
   pub same-gap : after .gap i ≡ before .gap i
+
+-- The jobs of all tasks but j are as they were.
+abbrev pub RestSame : TaskSet → (j : ℕ) → (before after : Jobs) → Type 0
+RestSame tasks j before after = (i : ℕ) → i < tasks .count → (i ≡ j → ⊥) → SameJob before after i
 
 -- What the invariant says of one task.
 pub record Held (tasks : TaskSet) (slack : ℕ → ℕ) (m : ℕ) (jobs : Jobs) (i : ℕ) : Type 0 where

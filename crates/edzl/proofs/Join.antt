@@ -30,16 +30,8 @@ pub no-slack-shrinks : (shorter longer : TaskSet) → SlackShrinks shorter longe
 unfolding noSlack
 no-slack-shrinks shorter longer = record { no-larger = λ i h. omega arith; new-fits = omega arith }
 
-module _
-    (shorter longer : TaskSet)
-    (slack slack' : ℕ → ℕ)
-    (m : ℕ)
-    (well : WellFormed longer)
-    (shrinks : SlackShrinks shorter longer slack slack')
-    (before after : Jobs)
-    (step : Joined shorter longer before after)
-    (inv : Invariant shorter slack m before)
-  where
+module _ (shorter longer : TaskSet) (slack slack' : ℕ → ℕ) (m : ℕ) (well : WellFormed longer) (less : SlackShrinks shorter longer slack slack') where
+  module _ (before after : Jobs) (step : Joined shorter longer before after) (inv : Invariant shorter slack m before) where
     -- A longer window takes no less.
     window-more : (i K L : ℕ) → i < longer .count → K ≤ L →
         interference (longer .period i) (longer .budget i) K ≤ interference (longer .period i) (longer .budget i) L
@@ -53,7 +45,7 @@ module _
     unfolding allowance
     allowance-old k i h l =
         let t = step .same-tasks i l in
-        let less = shrinks .no-larger i l in
+        let no-larger = less .no-larger i l in
         rw (step .same-tasks k h .same-deadline, ← t .same-period, ← t .same-budget)
         (window-more i (shorter .deadline k - slack i) (shorter .deadline k - slack' i) (omega arith) (omega arith))
 
@@ -63,7 +55,7 @@ module _
     claim-new l k h =
         let n = shorter .count in
         le-trans
-        (claim-start longer slack' after l n (well n (omega arith)) (shrinks .new-fits) (λ o. not-both (after .isOpen n) o (step .new-job .closed)))
+        (claim-start longer slack' after l n (well n (omega arith)) (less .new-fits) (λ o. not-both (after .isOpen n) o (step .new-job .closed)))
         (window-more n (l - slack' n) (longer .deadline k - slack' n) (omega arith) (omega arith))
 
     bound-old : (k : ℕ) → k < shorter .count → before .isOpen k ≡ true → Bound shorter slack m before k → Bound longer slack' m after k

@@ -5,17 +5,11 @@ use native.Mathlib.Nat.{le-of-eq}
 use Rattle.edzl.specs.TaskSet.{TaskSet}
 use Rattle.laws.proofs.CaseSplits.{by-equal}
 use Rattle.edzl.proofs.WindowLaws.{same-task}
-use Rattle.edzl.proofs.Invariant.{Jobs, Held, Invariant, SameJob, claim, invariant, of-task}
+use Rattle.edzl.proofs.Invariant.{Jobs, Held, Invariant, RestSame, claim, invariant, of-task}
 use Rattle.edzl.proofs.BoundLaws.{bound-kept, claim-same, lost-same, held-same}
 
-module _
-    (tasks : TaskSet)
-    (slack : ℕ → ℕ)
-    (m j : ℕ)
-    (before after : Jobs)
-    (rest : (i : ℕ) → i < tasks .count → (i ≡ j → ⊥) → SameJob before after i)
-    (less : (l : ℕ) → claim tasks after l j ≤ claim tasks before l j)
-  where
+module _ (tasks : TaskSet) (slack : ℕ → ℕ) (m j : ℕ) (before after : Jobs) where
+  module _ (rest : RestSame tasks j before after) (less : (l : ℕ) → claim tasks after l j ≤ claim tasks before l j) where
     -- No task claims more after the step.
     claim-after : (l i : ℕ) → i < tasks .count → claim tasks after l i ≤ claim tasks before l i
     claim-after l i h =

@@ -8,7 +8,7 @@ use Rattle.edzl.proofs.WellFormed.{WellFormed}
 use Rattle.edzl.specs.Window.{spare}
 use Rattle.edzl.proofs.Potential.{release}
 use Rattle.edzl.proofs.WindowLaws.{same-task}
-use Rattle.edzl.proofs.Invariant.{Jobs, Bound, Ahead, SlackFits, Invariant, SameJob, allowance, claim, lost, held-open}
+use Rattle.edzl.proofs.Invariant.{Jobs, Bound, Ahead, SlackFits, Invariant, RestSame, allowance, claim, lost, held-open}
 use Rattle.edzl.proofs.BoundLaws.{claim-open, claim-closed, claim-start, claim-same}
 use Rattle.edzl.proofs.OneJob.{one-job-keeps}
 
@@ -21,21 +21,10 @@ pub record Released (tasks : TaskSet) (j : ℕ) (before after : Jobs) : Type 0 w
   pub budget-some : 1 ≤ after .budget j
   pub budget-fits : after .budget j ≤ tasks .budget j
   pub now-gap : after .gap j ≡ tasks .period j
-  pub rest : (i : ℕ) → i < tasks .count → (i ≡ j → ⊥) → SameJob before after i
+  pub rest : RestSame tasks j before after
 
-module _
-    (tasks : TaskSet)
-    (slack : ℕ → ℕ)
-    (m : ℕ)
-    (well : WellFormed tasks)
-    (slack-fits : SlackFits tasks slack)
-    (j : ℕ)
-    (j-in : j < tasks .count)
-    (before after : Jobs)
-    (step : Released tasks j before after)
-    (ahead : Ahead tasks slack before)
-    (inv : Invariant tasks slack m before)
-  where
+module _ (tasks : TaskSet) (slack : ℕ → ℕ) (m : ℕ) (well : WellFormed tasks) (slack-fits : SlackFits tasks slack) where
+  module _ (j : ℕ) (j-in : j < tasks .count) (before after : Jobs) (step : Released tasks j before after) (inv : Invariant tasks slack m before) where
     -- The task claims no more after the release.
     claim-after : (l : ℕ) → claim tasks after l j ≤ claim tasks before l j
     unfolding WellFormed
@@ -49,9 +38,9 @@ module _
         (release _ _ _ (well j j-in) (after .budget j) l (step .budget-fits))
 
     -- The new job has lost nothing, and the others claim no more than they are allowed.
-    bound-new : Bound tasks slack m after j
+    bound-new : Ahead tasks slack before → Bound tasks slack m after j
     unfolding WellFormed SlackFits Ahead allowance lost spare
-    bound-new =
+    bound-new ahead =
         record {
           claims = λ i h ne.
               rw (
@@ -67,10 +56,10 @@ module _
         }
 
     -- The new job starts within its bound because the others are ahead by their slack. With no slack that is `in-time-ahead`.
-    pub release-keeps : Invariant tasks slack m after
+    pub release-keeps : Ahead tasks slack before → Invariant tasks slack m after
     unfolding WellFormed
-    release-keeps =
+    release-keeps ahead =
         let fits = well j j-in in
         one-job-keeps tasks slack m j before after (step .rest) claim-after
-        (held-open (omega arith) (step .now-open) (omega arith) (omega arith) bound-new)
+        (held-open (omega arith) (step .now-open) (omega arith) (omega arith) (bound-new ahead))
         inv

@@ -55,18 +55,8 @@ way {ran} {before} {after} {i} effect =
     (λ done. no-job (effect .closes-finished o (omega arith))))
     (λ c. no-job (effect .stays-closed c))
 
-module _
-    (tasks : TaskSet)
-    (slack : ℕ → ℕ)
-    (m : ℕ)
-    (well : WellFormed tasks)
-    (ran : ℕ → Bool)
-    (before after : Jobs)
-    (step : Slotted tasks m ran before after)
-    (inv : Invariant tasks slack m before)
-    (i : ℕ)
-    (h : i < tasks .count)
-  where
+module _ (tasks : TaskSet) (slack : ℕ → ℕ) (m : ℕ) (well : WellFormed tasks) (ran : ℕ → Bool) where
+  module _ (before after : Jobs) (step : Slotted tasks m ran before after) (inv : Invariant tasks slack m before) (i : ℕ) (h : i < tasks .count) where
     -- A task that had a job claims no more than that job would with one slot less and what it still owes.
     claim-after : (l : ℕ) →
         before .isOpen i ≡ true →
@@ -104,7 +94,8 @@ module _
         (pass-closed _ _ _ (well i h) (before .gap i) l l-some))
 
     -- And the claim of a runner whose budget reaches into those l slots falls.
-    pub claim-falls : (l : ℕ) → 1 ≤ l → ran i ≡ true → before .left i - l < before .budget i → claim tasks after (l - 1) i + 1 ≤ claim tasks before l i
+    pub claim-falls : (l : ℕ) → 1 ≤ l → ran i ≡ true → before .left i - l < before .budget i →
+        claim tasks after (l - 1) i + 1 ≤ claim tasks before l i
     unfolding WellFormed
     claim-falls l l-some runs reaches =
         let o = step .choice .runner-open i h runs in

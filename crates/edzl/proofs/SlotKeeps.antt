@@ -14,20 +14,11 @@ use Rattle.laws.proofs.CaseSplits.{by-order, by-test, not-both}
 use Rattle.edzl.proofs.SumLaws.{others-gain, bit-true, bit-false}
 use Rattle.edzl.proofs.Invariant.{Jobs, Bound, Invariant, claim, lost, used, invariant, held-open, held-closed}
 use Rattle.edzl.proofs.BoundLaws.{bound-kept}
-use Rattle.edzl.proofs.Choice.{LegalChoice, UrgentRun, neither-urgent}
+use Rattle.edzl.proofs.Choice.{UrgentRun, neither-urgent}
 use Rattle.edzl.proofs.Slot.{StillOpen, Slotted, went-on, no-job, way, claim-passes, claim-falls}
 
-module _
-    (tasks : TaskSet)
-    (slack : ℕ → ℕ)
-    (m : ℕ)
-    (well : WellFormed tasks)
-    (ran : ℕ → Bool)
-    (before after : Jobs)
-    (step : Slotted tasks m ran before after)
-    (urgent : UrgentRun (tasks .count) ran before)
-    (inv : Invariant tasks slack m before)
-  where
+module _ (tasks : TaskSet) (slack : ℕ → ℕ) (m : ℕ) (well : WellFormed tasks) (ran : ℕ → Bool) (before after : Jobs) where
+  module _ (step : Slotted tasks m ran before after) (urgent : UrgentRun (tasks .count) ran before) (inv : Invariant tasks slack m before) where
     -- An idle job is not urgent.
     calm : (k : ℕ) → k < tasks .count → before .isOpen k ≡ true → ran k ≡ false → before .budget k < before .left k
     unfolding UrgentRun
@@ -61,14 +52,8 @@ module _
     all-busy k h o idle = ⊎-elim (λ full. full) (λ all. not-both (ran k) (all k h o) idle) (step .choice .enough)
 
     -- A job k that goes on.
-    module _
-        (k : ℕ)
-        (h : k < tasks .count)
-        (o : before .isOpen k ≡ true)
-        (owes : 1 ≤ before .budget k - bit (ran k))
-        (more : 1 ≤ before .left k - 1)
-        (still : StillOpen ran before after k)
-      where
+    module _ (k : ℕ) (h : k < tasks .count) (o : before .isOpen k ≡ true) where
+      module _ (owes : 1 ≤ before .budget k - bit (ran k)) (more : 1 ≤ before .left k - 1) (still : StillOpen ran before after k) where
         passes : (i : ℕ) → i < tasks .count → claim tasks after (after .left k) i ≤ claim tasks before (before .left k) i
         passes i l = rw (still .now-left) (claim-passes tasks slack m well ran before after step inv i l (before .left k) (omega arith))
 

@@ -19,16 +19,8 @@ open-rank j o small =
     (λ u. rw (u, o) (lt-ltb (j .left) never (omega arith)))
     (λ u. rw (u, o) (lt-ltb (later + j .left) never (omega arith)))
 
-module _
-    (x : Job)
-    (i : ℕ)
-    (y : Job)
-    (j : ℕ)
-    (open-x : x .«open» ≡ true)
-    (open-y : y .«open» ≡ true)
-    (small-x : x .left < later)
-    (small-y : y .left < later)
-  where
+module _ (x : Job) (i : ℕ) (y : Job) (j : ℕ) where
+  module _ (open-x : x .«open» ≡ true) (open-y : y .«open» ≡ true) (small-x : x .left < later) (small-y : y .left < later) where
     pub rank-precedes : rankPrecedes (rank x) i (rank y) j ≡ jobPrecedes x i y j
     unfolding rank rankPrecedes jobPrecedes byUrgency leftFirst
     rank-precedes =

@@ -7,7 +7,8 @@ use mathlib.Core.Path.{_≡_, refl, sym, _∙_}
 use borrow.Author.Needs.{needs}
 use borrow.Author.Tests.{not-true, not-false}
 use lib.ListN.{length}
-use Rattle.job.proofs.RankSearch.{Least, Reached, reached-start, reached-idle, reached-waiting, least-stays, least-past-idle, reached-rival, least-is-next, none-is-next}
+use Rattle.job.proofs.RankSearch.{Least, least-past-idle, least-stays, least-is-next, none-is-next}
+use Rattle.job.proofs.RankSearch.{Reached, reached-start, reached-idle, reached-waiting, reached-rival}
 use Rattle.job.proofs.search.next_runner.Statement.{statement}
 use Rattle.job.proofs.search.next_runner.Tie as tie
 
