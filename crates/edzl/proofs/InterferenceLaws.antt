@@ -1,6 +1,6 @@
 -- The laws of interference. As a function of the window, for a task with 1 ≤ C ≤ T, others cite: `monotone`, `grows`, `period-more`,
--- `periods-more`, `first-period`, `at-least`; they come from `staircase`, the value by the whole periods and the rest. Of the other two
--- numbers: `budget-monotone`, `period-antitone`.
+-- `first-period`, `at-least`; they come from `staircase`, the value by the whole periods and the rest. Of the other two numbers:
+-- `budget-monotone`, `period-antitone`.
 use Prim.Native.Nat.{ℕ, zero, suc, _+_, _*_, _-_, _/_, _%_, _≤_, _<_, min}
 use mathlib.Core.Path.{_≡_, sym}
 use native.Mathlib.Nat.{le-refl, mul-le-mul-left, add-zero, add-suc, div-add-mod', div-eq-of-lt-le, mod-lt}

@@ -33,6 +33,7 @@ pub record OpenShape (T C D left budget gap : ℕ) : Type 0 where
   pub budget-fits : budget ≤ C
   pub gap-is : gap ≡ left + (T - D)
 
+-- The numbers of task i, with a job and without.
 pub record Shape (tasks : TaskSet) (jobs : Jobs) (i : ℕ) : Type 0 where
   pub gap-fits : jobs .gap i ≤ tasks .period i
   pub while-open : jobs .isOpen i ≡ true →

@@ -1,6 +1,5 @@
 -- A step that changes the job of one task, as a release and a finish do. Others cite `one-job-keeps`.
 use Prim.Native.Nat.{ℕ, _≤_, _<_}
-use mathlib.Core.Path.{_≡_}
 use native.Mathlib.Nat.{le-of-eq}
 use Rattle.edzl.specs.TaskSet.{TaskSet}
 use Rattle.laws.proofs.CaseSplits.{by-equal}

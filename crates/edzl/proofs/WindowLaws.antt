@@ -1,5 +1,5 @@
--- Laws of the window test. Others cite: `SameTask`, that two sets agree on a task, with `same-task`; `count-same` and `admitted-same`, that the
--- test reads the tasks below the count only; and `admitted-few`.
+-- Laws of the window test. Others cite: `SameTask`, that two sets agree on a task, with `same-task`; `count-same`, that the test reads the tasks
+-- below the count only; and `admitted-few`.
 use Prim.Native.Nat.{ℕ, _≤_, _<_}
 use mathlib.Core.Path.{_≡_, refl, ap, _∙_}
 use mathlib.Core.Bool.{true}
@@ -39,10 +39,6 @@ module _ (tasks tasks' : TaskSet) (same-count : tasks' .count ≡ tasks .count) 
     count-same =
         ap (λ (n : ℕ). sumTo n (λ k. bit (mayTurnUrgent tasks' slack' m k))) same-count
         ∙ sum-same _ _ (tasks .count) (λ k h. ap bit (may-same k h))
-
-  pub admitted-same : (m : ℕ) → admitted tasks' m ≡ admitted tasks m
-  unfolding admitted
-  admitted-same m = rw (count-same noSlack noSlack (λ i h. refl) m)
 
 -- An admitted set has at most m tasks that may turn urgent.
 pub admitted-few : (tasks : TaskSet) (m : ℕ) → admitted tasks m ≡ true → countUrgent tasks noSlack m ≤ m
