@@ -1,4 +1,6 @@
--- The laws of sums over the indexes below n, of sums that leave one index out, and of bits.
+-- The laws of sums over the indexes below n, of sums that leave one index out, and of bits. Others cite: `sum-same`, `sum-strict`, `sum-one-more`,
+-- `sum-longer`, `sum-bound`; `others-same`, `others-monotone`, `sum-others`, `others-gain`; `bit-true`, `bit-false`, `bit-small`, `bit-monotone`
+-- and `count-bound`.
 use Prim.Native.Nat.{ℕ, zero, suc, _+_, _*_, _≤_, _<_}
 use mathlib.Core.Path.{_≡_, refl, sym, ap, ap₂}
 use mathlib.Core.Bool.{Bool, true, false}
@@ -18,18 +20,18 @@ module _ (f g : ℕ → ℕ) where
   sum-same zero h = refl
   sum-same (suc n) h = ap₂ _+_ (sum-same n (down n h)) (h n (omega arith))
 
-  pub sum-monotone : (n : ℕ) → ((i : ℕ) → i < n → f i ≤ g i) → sumTo n f ≤ sumTo n g
+  sum-monotone : (n : ℕ) → ((i : ℕ) → i < n → f i ≤ g i) → sumTo n f ≤ sumTo n g
   unfolding sumTo
   sum-monotone zero h = le-refl _
   sum-monotone (suc n) h = omega (arith, sum-monotone n (down n h), h n (omega arith))
 
-  pub sum-add : (n : ℕ) → sumTo n (λ i. f i + g i) ≡ sumTo n f + sumTo n g
+  sum-add : (n : ℕ) → sumTo n (λ i. f i + g i) ≡ sumTo n f + sumTo n g
   unfolding sumTo
   sum-add zero = refl
   sum-add (suc n) = omega (arith, sum-add n)
 
 -- Where each term grows by what g gives it, and g gives m in all, the sum grows by m.
-pub sum-gain : (f g h : ℕ → ℕ) (n m : ℕ) → m ≤ sumTo n g → ((i : ℕ) → i < n → f i + g i ≤ h i) → sumTo n f + m ≤ sumTo n h
+sum-gain : (f g h : ℕ → ℕ) (n m : ℕ) → m ≤ sumTo n g → ((i : ℕ) → i < n → f i + g i ≤ h i) → sumTo n f + m ≤ sumTo n h
 sum-gain f g h n m given each =
     omega (arith, sum-monotone (λ i. f i + g i) h n each, sum-add f g n)
 
@@ -46,11 +48,11 @@ sum-bound f b (suc n) h = omega (arith, sum-bound f b n (down n h), h n (omega a
 
 -- A sum that leaves k out: nothing stands at k, and f elsewhere.
 module _ (f : ℕ → ℕ) {i k : ℕ} where
-  pub others-at : i ≡ k → others k f i ≡ 0
+  others-at : i ≡ k → others k f i ≡ 0
   unfolding others
   others-at e = rw (eq-eqb i k e)
 
-  pub others-off : (i ≡ k → ⊥) → others k f i ≡ f i
+  others-off : (i ≡ k → ⊥) → others k f i ≡ f i
   unfolding others
   others-off ne = rw (ne-eqb i k ne)
 

@@ -39,7 +39,7 @@ module _ (q : Candidates) where
   unfolding unpreceded
   test-passes i zero h = refl
   test-passes i (suc n) h =
-      rw (test-passes i n (λ j l. h j (omega arith)))
+      rw (test-passes i n (down n h))
       (by-test (q .waits n) (λ w. rw (w, h n (omega arith) w)) (λ c. rw c))
 
   test-says : (i n : ℕ) → unpreceded q i n ≡ true → (j : ℕ) → j < n → Behind q i j

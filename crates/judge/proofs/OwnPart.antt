@@ -1,5 +1,5 @@
 -- The window test where the sum of a task counts the task itself. In its own window a task interferes by its budget, so its own part is known
--- and stands on both sides of the test. Others cite `part`, `needed` and `count-with-own`.
+-- and stands on both sides of the test. Others cite `part`, `sumOf`, `needed`, `urgentBy` and `count-with-own`.
 use Prim.Native.Nat.{ℕ, _+_, _-_, _*_, _<_, min}
 use native.Mathlib.Nat.{sub-zero}
 use native.Mathlib.Omega.{arith}
