@@ -10,7 +10,8 @@ use Rattle.edzl.specs.Sums.{sumTo, bit}
 use Rattle.edzl.specs.Window.{mayTurnUrgent, countUrgent}
 use Rattle.laws.proofs.CaseSplits.{by-order, by-test}
 use Rattle.edzl.proofs.SumLaws.{sum-strict, bit-true, bit-false, bit-monotone}
-use Rattle.edzl.proofs.Invariant.{Jobs, Invariant, urgent-counted}
+use Rattle.edzl.proofs.Invariant.{Jobs, Invariant}
+use Rattle.edzl.proofs.BoundLaws.{urgent-counted}
 
 -- x goes before y: x is urgent and y is not, or both are alike in urgency and x has fewer slots to its deadline.
 pub data Beats (jobs : Jobs) (x y : ℕ) : Type 0 where
@@ -29,39 +30,26 @@ pub record LegalChoice (n m : ℕ) (ran : ℕ → Bool) (jobs : Jobs) : Type 0 w
 unfoldable pub UrgentRun : (n : ℕ) → (ℕ → Bool) → Jobs → Type 0
 UrgentRun n ran jobs = (k : ℕ) → k < n → jobs .isOpen k ≡ true → jobs .left k ≤ jobs .budget k → ran k ≡ true
 
-module _
-    (tasks : TaskSet)
-    (slack : ℕ → ℕ)
-    (m : ℕ)
-    (ran : ℕ → Bool)
-    (jobs : Jobs)
-    (choice : LegalChoice (tasks .count) m ran jobs)
-    (inv : Invariant tasks slack m jobs)
-  where
+module _ (tasks : TaskSet) (slack : ℕ → ℕ) (m : ℕ) (ran : ℕ → Bool) (jobs : Jobs) where
+  module _ (choice : LegalChoice (tasks .count) m ran jobs) (inv : Invariant tasks slack m jobs) where
     counted : (i : ℕ) → i < tasks .count → jobs .isOpen i ≡ true → jobs .left i ≤ jobs .budget i → mayTurnUrgent tasks slack m i ≡ true
     counted i h o urgent = urgent-counted tasks slack jobs m i (inv .bound i h o) (inv .in-time i h o) urgent
 
-    module _
-        (k : ℕ)
-        (h : k < tasks .count)
-        (o : jobs .isOpen k ≡ true)
-        (urgent : jobs .left k ≤ jobs .budget k)
-        (idle : ran k ≡ false)
-      where
-        -- Beside an idle urgent job every runner is urgent, so the test counts it.
-        runner-counted : (i : ℕ) → i < tasks .count → ran i ≡ true → mayTurnUrgent tasks slack m i ≡ true
-        runner-counted i l runs =
-            by-order (jobs .left i) (jobs .budget i)
-            (λ u. counted i l (choice .runner-open i l runs) u)
-            (λ calm. absurd (choice .none-beaten k i h l o idle runs (more-urgent urgent calm)))
+    module _ (k : ℕ) (h : k < tasks .count) (o : jobs .isOpen k ≡ true) (urgent : jobs .left k ≤ jobs .budget k) (idle : ran k ≡ false) where
+      -- Beside an idle urgent job every runner is urgent, so the test counts it.
+      runner-counted : (i : ℕ) → i < tasks .count → ran i ≡ true → mayTurnUrgent tasks slack m i ≡ true
+      runner-counted i l runs =
+          by-order (jobs .left i) (jobs .budget i)
+          (λ u. counted i l (choice .runner-open i l runs) u)
+          (λ calm. absurd (choice .none-beaten k i h l o idle runs (more-urgent urgent calm)))
 
-        -- And it counts the idle job too.
-        more-counted : sumTo (tasks .count) (λ i. bit (ran i)) < countUrgent tasks slack m
-        unfolding countUrgent
-        more-counted =
-            sum-strict (λ i. bit (ran i)) (λ i. bit (mayTurnUrgent tasks slack m i)) (tasks .count) k h
-            (λ i l. bit-monotone (ran i) (mayTurnUrgent tasks slack m i) (runner-counted i l))
-            (omega (arith, bit-false (ran k) idle, bit-true (mayTurnUrgent tasks slack m k) (counted k h o urgent)))
+      -- And it counts the idle job too.
+      more-counted : sumTo (tasks .count) (λ i. bit (ran i)) < countUrgent tasks slack m
+      unfolding countUrgent
+      more-counted =
+          sum-strict (λ i. bit (ran i)) (λ i. bit (mayTurnUrgent tasks slack m i)) (tasks .count) k h
+          (λ i l. bit-monotone (ran i) (mayTurnUrgent tasks slack m i) (runner-counted i l))
+          (omega (arith, bit-false (ran k) idle, bit-true (mayTurnUrgent tasks slack m k) (counted k h o urgent)))
 
     -- Were an urgent job idle, at least m would run, and the test would count more than m.
     pub urgent-runs : countUrgent tasks slack m ≤ m → UrgentRun (tasks .count) ran jobs

@@ -1,12 +1,13 @@
 -- The laws of interference. As a function of the window, for a task with 1 ≤ C ≤ T, others cite: `monotone`, `grows`, `period-more`,
--- `periods-more`, `first-period`, `at-least`; they come from `staircase`, the value by the whole periods and the rest. Of the other two
--- numbers: `budget-monotone`, `period-antitone`.
+-- `first-period`, `at-least`; they come from `staircase`, the value by the whole periods and the rest. Of the other two numbers:
+-- `budget-monotone`, `period-antitone`.
 use Prim.Native.Nat.{ℕ, zero, suc, _+_, _*_, _-_, _/_, _%_, _≤_, _<_, min}
 use mathlib.Core.Path.{_≡_, sym}
 use native.Mathlib.Nat.{le-refl, mul-le-mul-left, add-zero, add-suc, div-add-mod', div-eq-of-lt-le, mod-lt}
 use native.Mathlib.Omega.{arith}
 use Rattle.edzl.specs.Window.{interference}
 use Rattle.laws.proofs.CaseSplits.{by-order}
+use Rattle.laws.proofs.Steps.{by-steps}
 
 module _ (T C : ℕ) (T-some : 1 ≤ T) (C-fits : C ≤ T) where
   -- The value where the quotient is known.
@@ -35,19 +36,13 @@ module _ (T C : ℕ) (T-some : 1 ≤ T) (C-fits : C ≤ T) where
       let h : r < T = mod-lt L T-some in
       omega (arith, staircase q r L e (omega arith), staircase q (suc r) (suc L) (omega arith) h)
 
-  monotone-add : (d L : ℕ) → interference T C L ≤ interference T C (L + d)
-  monotone-add zero L = rw add-zero (le-refl _)
-  monotone-add (suc d) L = rw add-suc (omega (arith, monotone-add d L, one-step (L + d)))
+  pub monotone : (K L : ℕ) → K ≤ L → interference T C K ≤ interference T C L
+  monotone = by-steps (interference T C) (λ L. one-step L .0)
 
   -- A window that is d slots longer adds at most d.
   pub grows : (d L : ℕ) → interference T C (L + d) ≤ interference T C L + d
   grows zero L = rw (add-zero L) (omega arith)
   grows (suc d) L = rw (add-suc L d) (omega (arith, grows d L, one-step (L + d)))
-
-  pub monotone : (K L : ℕ) → K ≤ L → interference T C K ≤ interference T C L
-  monotone K L h =
-      let e : K + (L - K) ≡ L = omega arith in
-      rw e at (monotone-add (L - K) K)
 
   -- A whole period adds a whole budget.
   pub period-more : (L : ℕ) → interference T C (L + T) ≡ interference T C L + C

@@ -4,9 +4,12 @@ pub mod SumLaws
 pub mod WindowLaws
 pub mod Potential
 pub mod Invariant
+pub mod BoundLaws
+pub mod OneJob
 pub mod Release
 pub mod Finish
 pub mod Join
 pub mod Choice
 pub mod Slot
+pub mod SlotKeeps
 pub mod NoSlack

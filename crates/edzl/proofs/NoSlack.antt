@@ -13,7 +13,8 @@ use Rattle.edzl.proofs.Release.{Released, release-keeps}
 use Rattle.edzl.proofs.Finish.{Finished, finish-keeps}
 use Rattle.edzl.proofs.Join.{Joined, join-keeps, no-slack-shrinks}
 use Rattle.edzl.proofs.Choice.{UrgentRun, urgent-runs}
-use Rattle.edzl.proofs.Slot.{Slotted, slot-keeps, owes-in-time}
+use Rattle.edzl.proofs.Slot.{Slotted}
+use Rattle.edzl.proofs.SlotKeeps.{slot-keeps, owes-in-time}
 
 -- The invariant with no slack.
 abbrev pub Safe : TaskSet → (m : ℕ) → Jobs → Type 0
@@ -25,9 +26,7 @@ safe-fresh tasks m jobs fresh = fresh-starts tasks noSlack m jobs fresh
 module _ (tasks : TaskSet) (well : WellFormed tasks) (m : ℕ) (before after : Jobs) (safe : Safe tasks m before) where
   pub safe-release : (j : ℕ) → j < tasks .count → Released tasks j before after → Safe tasks m after
   safe-release j j-in step =
-      release-keeps tasks noSlack m well (no-slack-fits tasks) j j-in before after step
-      (in-time-ahead tasks noSlack m before safe)
-      safe
+      release-keeps tasks noSlack m well (no-slack-fits tasks) j j-in before after step safe (in-time-ahead tasks noSlack m before safe)
 
   pub safe-finish : (j : ℕ) → j < tasks .count → Finished tasks j before after → Safe tasks m after
   safe-finish j j-in step = finish-keeps tasks noSlack m well j j-in before after step safe

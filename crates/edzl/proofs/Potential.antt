@@ -57,47 +57,26 @@ module _ (T C D : ℕ) (fits : TaskFits T C D) where
         I.first-period T C T-some C-fits x (omega arith),
       ))
 
-  trailing-none : trailing T C 0 ≡ 0
-  trailing-none = omega (arith, trailing-first 0 (omega arith))
-
-  -- The open form, before the deadline of the job and after it.
+  -- Before the deadline of the job only its budget counts.
   open-before : (left b l : ℕ) → l ≤ left → openClaim T C left b l ≡ b - (left - l)
   unfolding openClaim
   open-before left b l h =
       let e : l - left ≡ 0 = omega arith in
-      omega (arith, ap (trailing T C) e, trailing-none)
-
-  open-after : (left b x : ℕ) → openClaim T C left b (left + x) ≡ b + trailing T C x
-  unfolding openClaim
-  open-after left b x =
-      let e : (left + x) - left ≡ x = omega arith in
-      let none : left - (left + x) ≡ 0 = omega arith in
-      rw (e, none) (omega arith)
-
-  -- A job that closes leaves what its open form is with no budget.
-  closed-as-open : (left gap l : ℕ) → gap ≡ left + (T - D) → closedClaim T C D gap l ≡ openClaim T C left 0 l
-  unfolding closedClaim openClaim
-  closed-as-open left gap l h =
-      let e : (l + T) - (D + gap) ≡ l - left = omega arith in
-      omega (arith, ap (trailing T C) e)
+      omega (arith, ap (trailing T C) e, trailing-first 0 (omega arith))
 
   -- Start: what a task may claim from a job whose whole deadline is ahead, with slack S.
   pub start-open : (S left b l : ℕ) → b ≤ C → b + S ≤ left → openClaim T C left b l ≤ interference T C (l - S)
+  unfolding openClaim
   start-open S left b l b-fits ahead =
       by-order l left
       (λ before. omega (arith, open-before left b l before, I.at-least T C T-some C-fits (l - S)))
       (λ after.
       let x = l - left in
-      let p = left - S in
-      let l-is : left + x ≡ l = omega arith in
-      let w-is : l - S ≡ x + p = omega arith in
-      let value : openClaim T C left b l ≡ b + trailing T C x = rw l-is at (open-after left b x) in
-      rw (value, w-is)
-      (by-order C p
-      (λ long. omega (arith, trailing-more x, I.monotone T C T-some C-fits (x + C) (x + p) (omega arith)))
+      by-order (x + C) (l - S)
+      (λ long. omega (arith, trailing-more x, I.monotone T C T-some C-fits (x + C) (l - S) long))
       (λ short.
-      let e : (x + p) + (C - p) ≡ x + C = omega arith in
-      omega (arith, trailing-more x, rw e at (I.grows T C T-some C-fits (C - p) (x + p))))))
+      let e : (l - S) + ((x + C) - (l - S)) ≡ x + C = omega arith in
+      omega (arith, trailing-more x, rw e at (I.grows T C T-some C-fits ((x + C) - (l - S)) (l - S)))))
 
   pub start-closed : (S gap l : ℕ) → S + C ≤ D → closedClaim T C D gap l ≤ interference T C (l - S)
   unfolding closedClaim
@@ -120,23 +99,20 @@ module _ (T C D : ℕ) (fits : TaskFits T C D) where
 
   -- Release: a new job claims no more than the task did before it.
   pub release : (b l : ℕ) → b ≤ C → openClaim T C D b l ≤ closedClaim T C D 0 l
-  unfolding closedClaim
+  unfolding closedClaim openClaim
   release b l b-fits =
       by-order l D
-      (λ before.
-      let z = (l + T) - D in
-      let e : (l + T) - (D + 0) ≡ z = omega arith in
-      rw e (omega (arith, open-before D b l before, trailing-first z (omega arith))))
+      (λ before. omega (arith, open-before D b l before, trailing-first ((l + T) - (D + 0)) (omega arith)))
       (λ after.
-      let x = l - D in
-      let l-is : D + x ≡ l = omega arith in
-      let e : (l + T) - (D + 0) ≡ x + T = omega arith in
-      rw e (omega (arith, rw l-is at (open-after D b x), trailing-period x)))
+      let e : (l + T) - (D + 0) ≡ (l - D) + T = omega arith in
+      omega (arith, ap (trailing T C) e, trailing-period (l - D)))
 
-  -- Finish: a closed job claims no more than it did while open.
+  -- Finish: a closed job claims no more than it did while open, since what it leaves is its open form with no budget.
   pub finish : (left b gap l : ℕ) → gap ≡ left + (T - D) → closedClaim T C D gap l ≤ openClaim T C left b l
-  unfolding openClaim
-  finish left b gap l h = omega (arith, closed-as-open left gap l h)
+  unfolding closedClaim openClaim
+  finish left b gap l h =
+      let e : (l + T) - (D + gap) ≡ l - left = omega arith in
+      omega (arith, ap (trailing T C) e)
 
   -- After a slot in which l falls too, neither difference of the open form has changed.
   open-slot : (left b l : ℕ) → 1 ≤ left → 1 ≤ l → openClaim T C (left - 1) b (l - 1) ≡ openClaim T C left b l

@@ -1,17 +1,17 @@
--- The laws of sums over the indexes below n, of sums that leave one index out, and of bits.
-use Prim.Native.Nat.{ℕ, zero, suc, _+_, _*_, _-_, _≤_, _<_}
-use mathlib.Core.Path.{_≡_, refl, sym, ap, ap₂, subst}
+-- The laws of sums over the indexes below n, of sums that leave one index out, and of bits. Others cite: `sum-same`, `sum-strict`, `sum-one-more`,
+-- `sum-longer`, `sum-bound`; `others-same`, `others-monotone`, `sum-others`, `others-gain`; `bit-true`, `bit-false`, `bit-small`, `bit-monotone`
+-- and `count-bound`.
+use Prim.Native.Nat.{ℕ, zero, suc, _+_, _*_, _≤_, _<_}
+use mathlib.Core.Path.{_≡_, refl, sym, ap, ap₂}
 use mathlib.Core.Bool.{Bool, true, false}
-use native.Mathlib.Nat.{le-refl, add-zero, add-suc, not-suc-le-zero}
+use native.Mathlib.Nat.{le-refl, not-suc-le-zero}
 use native.Mathlib.Omega.{arith}
 use borrow.Author.Tests.{eq-eqb, ne-eqb}
 use Rattle.edzl.specs.Sums.{sumTo, bit}
 use Rattle.edzl.specs.Window.{others}
 use Rattle.laws.proofs.CaseSplits.{by-equal, by-test}
-
--- Below n, a property of the indexes below suc n.
-down : {P : ℕ → Type 0} (n : ℕ) → ((i : ℕ) → i < suc n → P i) → (i : ℕ) → i < n → P i
-down n h i l = h i (omega arith)
+use Rattle.laws.proofs.Below.{down}
+use Rattle.laws.proofs.Steps.{by-steps}
 
 module _ (f g : ℕ → ℕ) where
   -- Functions that agree below n have the same sum.
@@ -20,42 +20,25 @@ module _ (f g : ℕ → ℕ) where
   sum-same zero h = refl
   sum-same (suc n) h = ap₂ _+_ (sum-same n (down n h)) (h n (omega arith))
 
-  pub sum-monotone : (n : ℕ) → ((i : ℕ) → i < n → f i ≤ g i) → sumTo n f ≤ sumTo n g
+  sum-monotone : (n : ℕ) → ((i : ℕ) → i < n → f i ≤ g i) → sumTo n f ≤ sumTo n g
   unfolding sumTo
   sum-monotone zero h = le-refl _
   sum-monotone (suc n) h = omega (arith, sum-monotone n (down n h), h n (omega arith))
 
-  -- Pigeonhole: no term larger, and one smaller.
-  pub sum-strict : (n k : ℕ) → k < n → ((i : ℕ) → i < n → f i ≤ g i) → f k < g k → sumTo n f < sumTo n g
-  unfolding sumTo
-  sum-strict zero k l h s = absurd (not-suc-le-zero l)
-  sum-strict (suc n) k l h s =
-      by-equal k n
-      (λ e.
-      let last : f n < g n = subst (λ (j : ℕ). f j < g j) e s in
-      omega (arith, sum-monotone n (down n h), last))
-      (λ ne. omega (arith, sum-strict n k (omega arith) (down n h) s, h n (omega arith)))
-
-  pub sum-add : (n : ℕ) → sumTo n (λ i. f i + g i) ≡ sumTo n f + sumTo n g
+  sum-add : (n : ℕ) → sumTo n (λ i. f i + g i) ≡ sumTo n f + sumTo n g
   unfolding sumTo
   sum-add zero = refl
   sum-add (suc n) = omega (arith, sum-add n)
 
 -- Where each term grows by what g gives it, and g gives m in all, the sum grows by m.
-pub sum-gain : (f g h : ℕ → ℕ) (n m : ℕ) → m ≤ sumTo n g → ((i : ℕ) → i < n → f i + g i ≤ h i) → sumTo n f + m ≤ sumTo n h
+sum-gain : (f g h : ℕ → ℕ) (n m : ℕ) → m ≤ sumTo n g → ((i : ℕ) → i < n → f i + g i ≤ h i) → sumTo n f + m ≤ sumTo n h
 sum-gain f g h n m given each =
     omega (arith, sum-monotone (λ i. f i + g i) h n each, sum-add f g n)
 
 -- More terms, no smaller sum.
-sum-add-terms : (f : ℕ → ℕ) (n d : ℕ) → sumTo n f ≤ sumTo (n + d) f
-unfolding sumTo
-sum-add-terms f n zero = rw add-zero (le-refl _)
-sum-add-terms f n (suc d) = rw add-suc (omega (arith, sum-add-terms f n d))
-
 pub sum-longer : (f : ℕ → ℕ) (n p : ℕ) → n ≤ p → sumTo n f ≤ sumTo p f
-sum-longer f n p h =
-    let e : n + (p - n) ≡ p = omega arith in
-    rw e at (sum-add-terms f n (p - n))
+unfolding sumTo
+sum-longer f = by-steps (λ n. sumTo n f) (λ n. omega arith)
 
 -- n terms, each at most b.
 pub sum-bound : (f : ℕ → ℕ) (b n : ℕ) → ((i : ℕ) → i < n → f i ≤ b) → sumTo n f ≤ n * b
@@ -65,29 +48,27 @@ sum-bound f b (suc n) h = omega (arith, sum-bound f b n (down n h), h n (omega a
 
 -- A sum that leaves k out: nothing stands at k, and f elsewhere.
 module _ (f : ℕ → ℕ) {i k : ℕ} where
-  pub others-at : i ≡ k → others k f i ≡ 0
+  others-at : i ≡ k → others k f i ≡ 0
   unfolding others
   others-at e = rw (eq-eqb i k e)
 
-  pub others-off : (i ≡ k → ⊥) → others k f i ≡ f i
+  others-off : (i ≡ k → ⊥) → others k f i ≡ f i
   unfolding others
   others-off ne = rw (ne-eqb i k ne)
 
 -- Two such sums are compared at the other indexes only.
 module _ (f g : ℕ → ℕ) (k n : ℕ) where
-  pub others-same : ((i : ℕ) → i < n → (i ≡ k → ⊥) → f i ≡ g i) → sumTo n (others k f) ≡ sumTo n (others k g)
-  others-same h =
-      sum-same (others k f) (others k g) n λ i l.
+  others-each : (P : ℕ → ℕ → Type 0) → P 0 0 → ((i : ℕ) → i < n → (i ≡ k → ⊥) → P (f i) (g i)) → (i : ℕ) → i < n → P (others k f i) (others k g i)
+  others-each P none h i l =
       by-equal i k
-      (λ e. omega (arith, others-at f e, others-at g e))
-      (λ ne. omega (arith, others-off f ne, others-off g ne, h i l ne))
+      (λ e. rw (others-at f e, others-at g e) none)
+      (λ ne. rw (others-off f ne, others-off g ne) (h i l ne))
+
+  pub others-same : ((i : ℕ) → i < n → (i ≡ k → ⊥) → f i ≡ g i) → sumTo n (others k f) ≡ sumTo n (others k g)
+  others-same h = sum-same (others k f) (others k g) n (others-each (λ a b. a ≡ b) refl h)
 
   pub others-monotone : ((i : ℕ) → i < n → (i ≡ k → ⊥) → f i ≤ g i) → sumTo n (others k f) ≤ sumTo n (others k g)
-  others-monotone h =
-      sum-monotone (others k f) (others k g) n λ i l.
-      by-equal i k
-      (λ e. omega (arith, others-at f e, others-at g e))
-      (λ ne. omega (arith, others-off f ne, others-off g ne, h i l ne))
+  others-monotone h = sum-monotone (others k f) (others k g) n (others-each (λ a b. a ≤ b) (le-refl _) h)
 
 -- A sum is the one that leaves k out, and what stands at k.
 pub sum-others : (f : ℕ → ℕ) (k n : ℕ) → k < n → sumTo n f ≡ sumTo n (others k f) + f k
@@ -99,6 +80,15 @@ sum-others f k (suc n) l =
     let before : sumTo n (others k f) ≡ sumTo n f = sum-same (others k f) f n (λ i h. others-off f (λ same. omega arith)) in
     omega (arith, before, others-at f (sym e), ap f e))
     (λ ne. omega (arith, sum-others f k n (omega arith), others-off f {i = n} {k = k} (λ same. ne (sym same))))
+
+module _ (f g : ℕ → ℕ) where
+  -- Pigeonhole: no term larger, and one smaller.
+  pub sum-strict : (n k : ℕ) → k < n → ((i : ℕ) → i < n → f i ≤ g i) → f k < g k → sumTo n f < sumTo n g
+  sum-strict n k l h s = omega (arith, sum-others f k n l, sum-others g k n l, others-monotone f g k n (λ i l' ne. h i l'))
+
+  -- A sum with 1 more at k.
+  pub sum-one-more : (k n : ℕ) → k < n → g k ≡ suc (f k) → ((i : ℕ) → (i ≡ k → ⊥) → g i ≡ f i) → sumTo n g ≡ suc (sumTo n f)
+  sum-one-more k n l at off = omega (arith, sum-others f k n l, sum-others g k n l, others-same g f k n (λ i l' ne. off i ne))
 
 -- `sum-gain` where k is left out and gains nothing.
 pub others-gain : (f g h : ℕ → ℕ) (k n m : ℕ) →
@@ -134,14 +124,3 @@ bit-monotone t u h =
 -- No more are counted than there are.
 pub count-bound : (p : ℕ → Bool) (n : ℕ) → sumTo n (λ i. bit (p i)) ≤ n
 count-bound p n = omega (arith, sum-bound (λ i. bit (p i)) 1 n (λ i h. bit-small (p i)))
-
--- A sum with 1 more at r.
-pub sum-one-more : (f g : ℕ → ℕ) (r n : ℕ) → r < n → g r ≡ suc (f r) → ((i : ℕ) → (i ≡ r → ⊥) → g i ≡ f i) → sumTo n g ≡ suc (sumTo n f)
-unfolding sumTo
-sum-one-more f g r zero h at off = absurd (omega arith)
-sum-one-more f g r (suc n) h at off =
-    by-equal r n
-    (λ e.
-    let last : g n ≡ suc (f n) = subst (λ (j : ℕ). g j ≡ suc (f j)) e at in
-    omega (arith, sum-same g f n (λ i l. off i (omega arith))))
-    (λ ne. omega (arith, sum-one-more f g r n (omega arith) at off, off n (omega arith)))

@@ -2,12 +2,13 @@
 -- `precedes-total`, that of two tasks one precedes the other.
 use Prim.Native.Nat.{ℕ, _<_}
 use mathlib.Core.Path.{_≡_, refl, sym, _∙_}
-use mathlib.Core.Bool.{Bool, true, false, _&&_, _||_, or-true}
+use mathlib.Core.Bool.{true, false, or-true}
 use mathlib.Core.Logic.{_⊎_, inl, inr, ⊎-elim}
 use native.Mathlib.Omega.{arith}
 use lib.Dec.{eqb, ltb}
 use borrow.Author.Tests.{ltb-true, eqb-true, lt-ltb, eq-eqb}
-use Rattle.laws.proofs.CaseSplits.{by-order, by-equal, by-test, not-both}
+use Rattle.laws.proofs.CaseSplits.{by-order, by-equal, by-test, by-tests, not-both}
+use Rattle.laws.proofs.Booleans.{and-left, and-right}
 use Rattle.job.specs.Job.{isUrgent}
 use Rattle.job.specs.Precedence.{leftFirst, byUrgency, jobPrecedes}
 use Rattle.job.specs.declared.job.Job.{Job}
@@ -21,45 +22,31 @@ pub data Before (x : Job) (i : ℕ) (y : Job) (j : ℕ) : Type 0 where
 module _ (x : Job) (i : ℕ) (y : Job) (j : ℕ) where
   left-first : isUrgent x ≡ isUrgent y → leftFirst x i y j ≡ true → Before x i y j
   unfolding leftFirst
-  left-first alike e = go (ltb (x .left) (y .left)) (eqb (x .left) (y .left)) refl refl e
-    where
-      go : (a b : Bool) →
-          ltb (x .left) (y .left) ≡ a →
-          eqb (x .left) (y .left) ≡ b →
-          (a || b && ltb i j) ≡ true →
-          Before x i y j
-      go true b p q e = by-left alike (ltb-true _ _ p)
-      go false true p q e = by-number alike (eqb-true _ _ q) (ltb-true i j e)
-      go false false p q e = not-both false e refl
+  left-first alike e =
+      by-test (ltb (x .left) (y .left))
+      (λ p. by-left alike (ltb-true _ _ p))
+      (λ p.
+      let tie = rw p at e in
+      by-number alike (eqb-true _ _ (and-left (eqb (x .left) (y .left)) _ tie)) (ltb-true i j (and-right (eqb (x .left) (y .left)) _ tie)))
+
+  alike-precedes : isUrgent x ≡ isUrgent y → jobPrecedes x i y j ≡ leftFirst x i y j
+  unfolding jobPrecedes byUrgency
+  alike-precedes alike = rw alike (by-test (isUrgent y) (λ e. rw e) (λ e. rw e))
 
   -- Precedence and its reason, both ways.
   reason : jobPrecedes x i y j ≡ true → Before x i y j
   unfolding jobPrecedes byUrgency
-  reason e = go (isUrgent x) (isUrgent y) refl refl e
-    where
-      go : (a b : Bool) →
-          isUrgent x ≡ a →
-          isUrgent y ≡ b →
-          byUrgency a b (leftFirst x i y j) ≡ true →
-          Before x i y j
-      go true false p q e = by-urgency p q
-      go false true p q e = not-both false e refl
-      go true true p q e = left-first (p ∙ sym q) e
-      go false false p q e = left-first (p ∙ sym q) e
-
-  alike-precedes : isUrgent x ≡ isUrgent y → leftFirst x i y j ≡ true → jobPrecedes x i y j ≡ true
-  unfolding jobPrecedes byUrgency
-  alike-precedes alike e = rw (alike, e) (go (isUrgent y))
-    where
-      go : (a : Bool) → byUrgency a a true ≡ true
-      go true = refl
-      go false = refl
+  reason e =
+      by-tests (isUrgent x) (isUrgent y)
+      (λ alike. left-first alike (sym (alike-precedes alike) ∙ e))
+      by-urgency
+      (λ p q. not-both false (rw (p, q) at e) refl)
 
   pub holds : Before x i y j → jobPrecedes x i y j ≡ true
   unfolding jobPrecedes byUrgency leftFirst
   holds (by-urgency p q) = rw (p, q)
-  holds (by-left alike l) = alike-precedes alike (rw (lt-ltb _ _ l))
-  holds (by-number alike e l) = alike-precedes alike (rw (eq-eqb _ _ e, lt-ltb _ _ l, or-true))
+  holds (by-left alike l) = alike-precedes alike ∙ rw (lt-ltb _ _ l)
+  holds (by-number alike e l) = alike-precedes alike ∙ rw (eq-eqb _ _ e, lt-ltb _ _ l, or-true)
 
   -- One of two tasks is before the other.
   alike-either : (i ≡ j → ⊥) → isUrgent x ≡ isUrgent y → Before x i y j ⊎ Before y j x i
@@ -76,9 +63,10 @@ module _ (x : Job) (i : ℕ) (y : Job) (j : ℕ) where
 
   either : (i ≡ j → ⊥) → Before x i y j ⊎ Before y j x i
   either other =
-      by-test (isUrgent x)
-      (λ p. by-test (isUrgent y) (λ q. alike-either other (p ∙ sym q)) (λ q. inl (by-urgency p q)))
-      (λ p. by-test (isUrgent y) (λ q. inr (by-urgency q p)) (λ q. alike-either other (p ∙ sym q)))
+      by-tests (isUrgent x) (isUrgent y)
+      (alike-either other)
+      (λ p q. inl (by-urgency p q))
+      (λ p q. inr (by-urgency q p))
 
 then : {x y z : Job} {i j k : ℕ} → Before x i y j → Before y j z k → Before x i z k
 then (by-urgency p q) (by-urgency r s) = not-both _ r q

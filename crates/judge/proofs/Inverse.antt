@@ -2,17 +2,8 @@
 -- and a task's part by it; and for the ranges `inverse-fits` and `product-fits`.
 use Prim.Native.Nat.{ℕ, _+_, _*_, _-_, _/_, _^_, _≤_, _<_, min}
 use mathlib.Core.Path.{_≡_, ap, _∙_}
-use native.Mathlib.Nat.{
-  mul-le-mul,
-  mul-comm,
-  mul-left-comm,
-  div-add-mod',
-  div-eq-of-lt-le,
-  div-le-self,
-  mod-lt,
-  le-of-mul-le-mul-left,
-  lt-of-mul-lt-mul-left,
-}
+use native.Mathlib.Nat.{mul-le-mul, mul-comm, mul-left-comm, le-of-mul-le-mul-left, lt-of-mul-lt-mul-left}
+use native.Mathlib.Nat.{div-add-mod', div-eq-of-lt-le, div-le-self, mod-lt}
 use native.Mathlib.Omega.{arith}
 use Rattle.edzl.specs.Window.{interference}
 

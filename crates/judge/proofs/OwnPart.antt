@@ -1,17 +1,16 @@
 -- The window test where the sum of a task counts the task itself. In its own window a task interferes by its budget, so its own part is known
--- and stands on both sides of the test. Others cite `part`, `needed` and `count-with-own`.
+-- and stands on both sides of the test. Others cite `part`, `sumOf`, `needed`, `urgentBy` and `count-with-own`.
 use Prim.Native.Nat.{ℕ, _+_, _-_, _*_, _<_, min}
 use native.Mathlib.Nat.{sub-zero}
 use native.Mathlib.Omega.{arith}
-use mathlib.Core.Path.{_≡_, sym, ap, _∙_}
+use mathlib.Core.Path.{_≡_, ap}
 use mathlib.Core.Bool.{Bool}
 use lib.Dec.{leb}
-use borrow.Author.Tests.{le-leb, lt-leb}
 use Rattle.edzl.specs.TaskSet.{TaskSet}
 use Rattle.edzl.specs.Window.{interference, spare, others, noSlack, windowSum, mayTurnUrgent, countUrgent}
 use Rattle.edzl.specs.Sums.{sumTo, bit}
 use Rattle.edzl.proofs.WellFormed.{WellFormed}
-use Rattle.laws.proofs.CaseSplits.{by-order}
+use Rattle.laws.proofs.Tests.{same-leb}
 use Rattle.edzl.proofs.InterferenceLaws.{first-period}
 use Rattle.edzl.proofs.SumLaws.{sum-same, sum-others, others-same}
 
@@ -34,13 +33,6 @@ needed m D B = m * (D - B) + min B (D - B)
 abbrev pub urgentBy : TaskSet → (m k sum : ℕ) → Bool
 urgentBy tasks m k sum = leb (needed m (tasks .deadline k) (tasks .budget k)) sum
 
--- The same on both sides of a test.
-both-sides : (a b c : ℕ) → leb a b ≡ leb (a + c) (b + c)
-both-sides a b c =
-    by-order a b
-    (λ h. le-leb a b h ∙ sym (le-leb (a + c) (b + c) (omega arith)))
-    (λ h. lt-leb a b h ∙ sym (lt-leb (a + c) (b + c) (omega arith)))
-
 module _ (tasks : TaskSet) (well : WellFormed tasks) (m : ℕ) where
   over-others : (k : ℕ) → windowSum tasks noSlack k ≡ sumTo (tasks .count) (others k (partOf tasks k))
   unfolding windowSum spare noSlack
@@ -55,10 +47,11 @@ module _ (tasks : TaskSet) (well : WellFormed tasks) (m : ℕ) where
   test-same : (k : ℕ) → k < tasks .count → mayTurnUrgent tasks noSlack m k ≡ urgentBy tasks m k (sumOf tasks k)
   unfolding mayTurnUrgent spare
   test-same k h =
-      let mine = min (tasks .budget k) (tasks .deadline k - tasks .budget k) in
-      let all : sumOf tasks k ≡ windowSum tasks noSlack k + mine
+      let all : sumOf tasks k ≡ windowSum tasks noSlack k + min (tasks .budget k) (tasks .deadline k - tasks .budget k)
       = omega (arith, sum-others (partOf tasks k) k (tasks .count) h, over-others k, own k h) in
-      rw all (both-sides _ _ mine)
+      same-leb (m * spare tasks k) (windowSum tasks noSlack k) (needed m (tasks .deadline k) (tasks .budget k)) (sumOf tasks k)
+      (λ l. omega arith)
+      (λ l. omega arith)
 
   pub count-with-own : countUrgent tasks noSlack m ≡ sumTo (tasks .count) (λ k. bit (urgentBy tasks m k (sumOf tasks k)))
   unfolding countUrgent

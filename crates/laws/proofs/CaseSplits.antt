@@ -17,6 +17,13 @@ pub by-test : {A : Type 0} (t : Bool) → (t ≡ true → A) → (t ≡ false �
 by-test true f g = f refl
 by-test false f g = g refl
 
+-- two tests come to the same, or one of them holds
+pub by-tests : {A : Type 0} (t u : Bool) → (t ≡ u → A) → (t ≡ true → u ≡ false → A) → (t ≡ false → u ≡ true → A) → A
+by-tests true true same f g = same refl
+by-tests true false same f g = f refl refl
+by-tests false true same f g = g refl refl
+by-tests false false same f g = same refl
+
 pub not-both : {A : Type 0} (t : Bool) → t ≡ true → t ≡ false → A
 not-both true p q = absurd (subst T q tt)
 not-both false p q = absurd (subst T (sym p) tt)

@@ -1,4 +1,7 @@
 pub mod CaseSplits
 pub mod Booleans
+pub mod Tests
+pub mod Below
+pub mod Steps
 pub mod Replaced
 pub mod Parts

@@ -1,8 +1,9 @@
--- The entries of a list that a loop rewrites. Others cite: `replicate-entry`; and of `replaced` `length-replaced`, `replaced-at`, `replaced-past`,
--- `replaced-short` and `replaced-set`.
-use Prim.Native.Nat.{ℕ, zero, suc, _≤_, _<_}
+-- The entries of a list that a loop rewrites. Others cite: `replicate-entry`; and of `replaced` `replaced-more`, a turn of such a loop,
+-- `length-replaced`, `replaced-at`, `replaced-past`, `replaced-short` and `replaced-set`.
+use Prim.Native.Nat.{ℕ, zero, suc, _+_, _≤_, _<_}
 use mathlib.Core.Path.{_≡_, refl, sym, _∙_}
 use mathlib.Core.List.{List}
+use native.Mathlib.Numerals.{add-one}
 use native.Mathlib.Omega.{arith}
 use lib.ListN.{getD, set, length, replicate, length-set, length-replicate, getD-replicate, List·getD-eq-default}
 use lib.Seq.{getD-set-same, getD-set-other, ext-getD}
@@ -15,6 +16,14 @@ replicate-entry n i a =
     by-order n i
     (λ h. List·getD-eq-default (replicate n a) a (omega (arith, length-replicate n a)))
     (λ h. getD-replicate n i a a h)
+
+-- One turn more of a loop that writes entry n.
+pub replaced-more : {A : Type 0} (f : ℕ → A) (l : List A) (n : ℕ) {l' : List A} {v : A} →
+    l' ≡ replaced n f l →
+    v ≡ f n →
+    set l' n v ≡ replaced (n + 1) f l
+unfolding replaced
+replaced-more f l n so-far next = rw (add-one n, so-far, next)
 
 module _ {A : Type 0} (f : ℕ → A) (l : List A) where
   pub length-replaced : (n : ℕ) → length (replaced n f l) ≡ length l

@@ -1,17 +1,19 @@
--- `next_runner` meets its contract. The invariants: the search has reached the candidate, and its rank is the smallest up to the rival.
-use Prim.Native.Nat.{_-_, _≤_, _<_}
+-- `next_runner` meets its contract. The invariants: the search has reached the candidate, and its rank is the smallest up to the rival. The file
+-- is long because two loops with a way out of the middle leave 28 needs; most are arithmetic, and the others cite a turn of RankSearch.antt.
+use Prim.Native.Nat.{_-_, _≤_}
 use native.Mathlib.Numerals.{add-one}
 use native.Mathlib.Omega.{arith}
 use mathlib.Core.Path.{_≡_, refl, sym, _∙_}
 use borrow.Author.Needs.{needs}
 use borrow.Author.Tests.{not-true, not-false}
 use lib.ListN.{length}
-use Rattle.job.proofs.RankSearch.{idle-rank, waiting-rank, rival-smaller, rival-not-smaller, Least, Reached, reached-start, reached-idle, reached-waiting, least-stays, least-past-idle, reached-rival, reached-end, least-is-next, none-is-next}
+use Rattle.job.proofs.RankSearch.{Least, least-past-idle, least-stays, least-is-next, none-is-next}
+use Rattle.job.proofs.RankSearch.{Reached, reached-start, reached-idle, reached-waiting, reached-rival}
 use Rattle.job.proofs.search.next_runner.Statement.{statement}
 use Rattle.job.proofs.search.next_runner.Tie as tie
 
 abbrev Inv-rivals : tie.InvT-rivals
-Inv-rivals ranks candidate₀ rival₀ candidate rival = (candidate ≡ candidate₀) × (rival ≤ length ranks) × (candidate < rival) × Least ranks rival candidate
+Inv-rivals ranks candidate₀ rival₀ candidate rival = (candidate ≡ candidate₀) × (rival ≤ length ranks) × Least ranks rival candidate
 
 abbrev μ-rivals : tie.MeasureT-rivals
 μ-rivals ranks candidate₀ rival₀ candidate rival = length ranks - rival
@@ -44,7 +46,7 @@ candidates-again : tie.Need-candidates-again Inv-rivals μ-rivals Inv-candidates
 candidates-again c =
     let w = c .before in
     let l = w .before .before .before in
-    (omega arith, rw (add-one (l .candidates .candidate)) (reached-idle (l .candidates .inv .1) (idle-rank _ (sym (w .waits .ensures) ∙ not-true _ (c .if1 .taken)))))
+    (omega arith, reached-idle (l .candidates .inv .1) (sym (w .waits .ensures) ∙ not-true _ (c .if1 .taken)))
 
 add-rival : tie.Need-add-rival Inv-rivals μ-rivals Inv-candidates μ-candidates
 add-rival c = omega arith
@@ -53,7 +55,7 @@ rivals-holds : tie.Need-rivals-holds Inv-rivals μ-rivals Inv-candidates μ-cand
 rivals-holds c =
     let w = c .before in
     let l = w .before .before .before in
-    (refl, omega arith, omega arith, rw (add-one (l .candidates .candidate)) (reached-waiting (l .candidates .inv .1) (waiting-rank _ (sym (w .waits .ensures) ∙ not-false _ (c .if1 .left)))))
+    (refl, omega arith, reached-waiting (l .candidates .inv .1) (sym (w .waits .ensures) ∙ not-false _ (c .if1 .left)))
 
 mul-waits-2 : tie.Need-mul-waits-2 Inv-rivals μ-rivals Inv-candidates μ-candidates
 mul-waits-2 c = omega arith
@@ -73,12 +75,8 @@ rivals-less c = omega arith
 rivals-again : tie.Need-rivals-again Inv-rivals μ-rivals Inv-candidates μ-candidates
 rivals-again c =
     let w = c .before in
-    let l = w .before .before .before in (
-      l .rivals .inv .0,
-      omega arith,
-      omega arith,
-      rw (add-one (l .rivals .rival)) (least-past-idle (l .rivals .inv .3) (idle-rank _ (sym (w .waits2 .ensures) ∙ not-true _ (c .if2 .taken)))),
-    )
+    let l = w .before .before .before in
+    (l .rivals .inv .0, omega arith, least-past-idle (l .rivals .inv .2) (sym (w .waits2 .ensures) ∙ not-true _ (c .if2 .taken)))
 
 mul-precedes : tie.Need-mul-precedes Inv-rivals μ-rivals Inv-candidates μ-candidates
 mul-precedes c = omega arith
@@ -102,9 +100,7 @@ candidates-again-2 : tie.Need-candidates-again-2 Inv-rivals μ-rivals Inv-candid
 candidates-again-2 c =
     let p = c .before in
     let t = p .before .before .before .before .before .before in
-    let l = t .before in
-    let later : l .rivals .candidate ≤ l .rivals .rival = omega arith in
-    (omega arith, reached-rival (l .rivals .inv .3) (t .rivals-test .taken) (rival-smaller _ _ _ _ later (sym (p .precedes .ensures) ∙ c .if3 .taken)))
+    (omega arith, reached-rival (t .before .rivals .inv .2) (t .rivals-test .taken) (sym (p .precedes .ensures) ∙ c .if3 .taken))
 
 add-rival-3 : tie.Need-add-rival-3 Inv-rivals μ-rivals Inv-candidates μ-candidates
 add-rival-3 c = omega arith
@@ -115,12 +111,8 @@ rivals-less-2 c = omega arith
 rivals-again-2 : tie.Need-rivals-again-2 Inv-rivals μ-rivals Inv-candidates μ-candidates
 rivals-again-2 c =
     let p = c .before in
-    let l = p .before .before .before .before .before .before .before in (
-      l .rivals .inv .0,
-      omega arith,
-      omega arith,
-      rw (add-one (l .rivals .rival)) (least-stays (l .rivals .inv .3) (rival-not-smaller _ _ _ _ (sym (p .precedes .ensures) ∙ c .if3 .left))),
-    )
+    let l = p .before .before .before .before .before .before .before in
+    (l .rivals .inv .0, omega arith, least-stays (l .rivals .inv .2) (sym (p .precedes .ensures) ∙ c .if3 .left))
 
 add-result : tie.Need-add-result Inv-rivals μ-rivals Inv-candidates μ-candidates
 add-result c = omega arith
@@ -130,13 +122,13 @@ returns c =
     let l = c .before in
     let s = l .before .before .before .before .before .before .before in
     let e : l .rivals .rival ≡ length (s .args .ranks .now) = omega arith in
-    rw (add-one (l .rivals .candidate)) (sym (least-is-next _ _ (rw e at (l .rivals .inv .3))))
+    rw (add-one (l .rivals .candidate)) (sym (least-is-next _ _ (rw e at (l .rivals .inv .2))))
 
 returns-2 : tie.Need-returns-2 Inv-rivals μ-rivals Inv-candidates μ-candidates
 returns-2 c =
     let l = c .before in
     let e : l .candidates .candidate ≡ length (l .before .before .args .ranks .now) = omega arith in
-    sym (none-is-next _ (reached-end (rw e at (l .candidates .inv .1))))
+    sym (none-is-next _ (rw e at (l .candidates .inv .1)))
 
 pub next-runner-spec : {M : Type 1} → statement M
 next-runner-spec =

@@ -1,25 +1,27 @@
 -- `numbers_of` meets its contract. The invariant: the numbers of the tasks before i are filled in.
 use Prim.Native.Nat.{_-_, _≤_}
 use native.Mathlib.Omega.{arith}
-use mathlib.Core.Path.{refl}
+use mathlib.Core.Path.{_≡_, refl}
 use lib.ListN.{getD}
 use Rattle.tasks.specs.Table.{zeroTask}
-use Rattle.judge.proofs.Turns.{Filled, filled-none, filled-more}
+use Rattle.laws.specs.Lists.{replaced}
+use Rattle.laws.proofs.Replaced.{replaced-more, replaced-at}
 use Rattle.judge.proofs.numbers.numbers_of.Statement.{statement}
 use Rattle.judge.proofs.numbers.numbers_of.Tie as tie
 
 abbrev Inv-loop : tie.InvT-loop
 Inv-loop count tasks numbers₀ i₀ numbers i =
     (i ≤ count)
-    × Filled 32 (λ j. getD tasks j zeroTask .period) (numbers .periods) i
-    × Filled 32 (λ j. getD tasks j zeroTask .budget) (numbers .budgets) i
-    × Filled 32 (λ j. getD tasks j zeroTask .deadline) (numbers .deadlines) i
+    × (numbers .periods ≡ replaced i (λ j. getD tasks j zeroTask .period) (numbers₀ .periods))
+    × (numbers .budgets ≡ replaced i (λ j. getD tasks j zeroTask .budget) (numbers₀ .budgets))
+    × (numbers .deadlines ≡ replaced i (λ j. getD tasks j zeroTask .deadline) (numbers₀ .deadlines))
 
 abbrev μ-loop : tie.MeasureT-loop
 μ-loop count tasks numbers₀ i₀ numbers i = count - i
 
 loop-holds : tie.Need-loop-holds Inv-loop μ-loop
-loop-holds c = (omega arith, filled-none 32 _ _ refl, filled-none 32 _ _ refl, filled-none 32 _ _ refl)
+unfolding replaced
+loop-holds c = (omega arith, refl, refl, refl)
 
 mul-task : tie.Need-mul-task Inv-loop μ-loop
 mul-task c = omega arith
@@ -57,15 +59,18 @@ loop-again c =
     let l = c .before .before in
     let v = l .loop .inv in (
       omega arith,
-      filled-more _ (v .1) (omega arith) refl,
-      filled-more _ (v .2) (omega arith) refl,
-      filled-more _ (v .3) (omega arith) refl,
+      replaced-more _ _ _ (v .1) refl,
+      replaced-more _ _ _ (v .2) refl,
+      replaced-more _ _ _ (v .3) refl,
     )
 
 returns : tie.Need-returns Inv-loop μ-loop
 returns c =
     let v = c .before .loop .inv in
-    (λ i h. v .1 .filled i (omega arith), (λ i h. v .2 .filled i (omega arith), λ i h. v .3 .filled i (omega arith)))
+    let n = c .before .loop .i in (
+      λ i h. rw (v .1) (replaced-at _ _ 0 n i (omega arith) (omega arith)),
+      (λ i h. rw (v .2) (replaced-at _ _ 0 n i (omega arith) (omega arith)), λ i h. rw (v .3) (replaced-at _ _ 0 n i (omega arith) (omega arith))),
+    )
 
 pub numbers-of-spec : {M : Type 1} → statement M
 numbers-of-spec =

@@ -1,15 +1,19 @@
--- `add_parts` meets its contract. The invariant: the sums before k have their part, and the others are as they were.
+-- `add_parts` meets its contract. The invariant: the sums before k have their part added, and the others are as they were.
 use Prim.Native.Nat.{_+_, _-_, _≤_}
 use native.Mathlib.Omega.{arith}
-use lib.ListN.{getD}
+use mathlib.Core.Path.{_≡_, refl}
+use lib.ListN.{getD, length, length-set}
+use Rattle.laws.specs.Lists.{replaced}
+use Rattle.laws.proofs.Replaced.{replaced-more, replaced-at, replaced-past}
 use Rattle.judge.proofs.OwnPart.{part}
-use Rattle.judge.proofs.Turns.{Added, added-none, added-more}
 use Rattle.judge.proofs.sums.add_parts.Statement.{statement}
 use Rattle.judge.proofs.sums.add_parts.Tie as tie
 
 abbrev Inv-loop : tie.InvT-loop
 Inv-loop period budget budgets deadlines sums₀ count inverse k₀ sums k =
-    (k ≤ count) × Added 32 (λ j. part period budget (getD deadlines j 0) (getD budgets j 0)) sums₀ sums k
+    (k ≤ count)
+    × (length sums ≡ 32)
+    × (sums ≡ replaced k (λ j. getD sums₀ j 0 + part period budget (getD deadlines j 0) (getD budgets j 0)) sums₀)
 
 abbrev μ-loop : tie.MeasureT-loop
 μ-loop period budget budgets deadlines sums₀ count inverse k₀ sums k = count - k
@@ -18,7 +22,8 @@ inverse-of-requires : tie.Need-inverse-of-requires Inv-loop μ-loop
 inverse-of-requires c κs = omega arith
 
 loop-holds : tie.Need-loop-holds Inv-loop μ-loop
-loop-holds c = (omega arith, added-none 32 _ _ (c .before .pre .1 .0 .1))
+unfolding replaced
+loop-holds c = (omega arith, c .before .pre .1 .0 .1, refl)
 
 mul-window : tie.Need-mul-window Inv-loop μ-loop
 mul-window c = omega arith
@@ -49,12 +54,15 @@ part-of-requires c κs =
     let p = l .before .before .pre in
     omega (arith, p .0, p .1 .1 .1 .0 (l .loop .k) (omega arith), l .before .inverse-of .ensures)
 
+-- The sum of task k has not been added to.
+sum-before : (l : tie.At-loop Inv-loop μ-loop) → getD (l .loop .sums) (l .loop .k) 0 ≡ getD (l .before .before .args .sums .now) (l .loop .k) 0
+sum-before l = rw (l .loop .inv .2) (replaced-past _ _ 0 (l .loop .k) (l .loop .k) (omega arith))
+
 add-sums : tie.Need-add-sums Inv-loop μ-loop
 add-sums c =
     let l = c .before .before .before .before .before in
     let p = l .before .before .pre .1 .1 .1 in
-    let before = l .loop .inv .1 .left (l .loop .k) (omega arith) in
-    omega (arith, c .part-of .ensures, p .0 (l .loop .k) (omega arith), p .1 (l .loop .k) (omega arith))
+    omega (arith, c .part-of .ensures, p .0 (l .loop .k) (omega arith), p .1 (l .loop .k) (omega arith), sum-before l)
 
 mul-sums-2 : tie.Need-mul-sums-2 Inv-loop μ-loop
 mul-sums-2 c = omega arith
@@ -71,13 +79,12 @@ loop-less c = omega arith
 loop-again : tie.Need-loop-again Inv-loop μ-loop
 loop-again c =
     let l = c .before .before .before .before .before in
-    let v = getD (l .loop .sums) (l .loop .k) 0 + c .part-of .result in
-    (omega arith, added-more v (l .loop .inv .1) (omega arith) (omega (arith, c .part-of .ensures)))
+    (omega arith, simp length-set (l .loop .inv .1), replaced-more _ _ _ (l .loop .inv .2) (omega (arith, c .part-of .ensures, sum-before l)))
 
 returns : tie.Need-returns Inv-loop μ-loop
 returns c =
-    let a = c .before .loop .inv .1 in
-    (a .done .size, λ k h. a .done .filled k (omega arith))
+    let l = c .before .loop in
+    (l .inv .1, λ k h. rw (l .inv .2) (replaced-at _ _ 0 (l .k) k (omega arith) (omega arith)))
 
 pub add-parts-spec : {M : Type 1} → statement M
 add-parts-spec =

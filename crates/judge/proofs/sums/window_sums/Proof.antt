@@ -1,5 +1,6 @@
 -- `window_sums` meets its contract. The invariant: each sum is taken over the tasks before i.
-use Prim.Native.Nat.{ℕ, _-_, _*_, _≤_, _<_, min}
+use Prim.Native.Nat.{ℕ, _-_, _*_, _≤_, _<_}
+use native.Mathlib.Nat.{le-trans}
 use native.Mathlib.Numerals.{add-one}
 use native.Mathlib.Omega.{arith}
 use mathlib.Core.Path.{_≡_, _∙_}
@@ -9,11 +10,6 @@ use Rattle.edzl.proofs.SumLaws.{sum-bound}
 use Rattle.judge.proofs.OwnPart.{part}
 use Rattle.judge.proofs.sums.window_sums.Statement.{statement}
 use Rattle.judge.proofs.sums.window_sums.Tie as tie
-
--- a sum over at most 32 tasks
-sum-fits : (f : ℕ → ℕ) (s n : ℕ) → n ≤ 32 → s ≤ 1_000_000 → sumTo n (λ i. min (f i) s) ≤ 32 * 1_000_000
-sum-fits f s n n-fits s-fits =
-    omega (arith, sum-bound (λ i. min (f i) s) 1_000_000 n (λ i h. omega arith))
 
 abbrev Inv-loop : tie.InvT-loop
 Inv-loop periods budgets deadlines sums₀ count i₀ sums i =
@@ -40,9 +36,11 @@ mul-add-parts-2 c = omega arith
 element-copy-out-add-parts-2 : tie.Need-element-copy-out-add-parts-2 Inv-loop μ-loop
 element-copy-out-add-parts-2 c = omega arith
 
+-- A sum over at most 32 tasks.
 sum-small : (l : tie.At-loop Inv-loop μ-loop) (k : ℕ) → k < l .before .args .count → getD (l .loop .sums) k 0 ≤ 32 * 1_000_000
 sum-small l k h =
-    rw (l .loop .inv .2 k h) (sum-fits _ _ (l .loop .i) (omega arith) (omega (arith, l .before .pre .1 .0 k h)))
+    let range = l .before .pre .1 .0 k h in
+    rw (l .loop .inv .2 k h) (le-trans (sum-bound _ 1_000_000 (l .loop .i) (λ i _. omega arith)) (omega arith))
 
 add-parts-requires : tie.Need-add-parts-requires Inv-loop μ-loop
 add-parts-requires c κs =

@@ -1,5 +1,5 @@
 -- `count_by_sums` meets its contract. The invariant: the count so far.
-use Prim.Native.Nat.{ℕ, _-_, _*_, _≤_}
+use Prim.Native.Nat.{_+_, _-_, _*_, _≤_}
 use native.Mathlib.Nat.{mul-le-mul-right}
 use native.Mathlib.Numerals.{add-one}
 use native.Mathlib.Omega.{arith}
@@ -10,7 +10,7 @@ use lib.ListN.{getD}
 use borrow.Author.Needs.{needs}
 use borrow.Author.Tests.{le-leb, lt-leb}
 use Rattle.edzl.specs.Sums.{sumTo, bit}
-use Rattle.edzl.proofs.SumLaws.{bit-true, bit-false}
+use Rattle.edzl.proofs.SumLaws.{bit-true, bit-false, bit-small}
 use Rattle.judge.proofs.OwnPart.{needed}
 use Rattle.judge.proofs.urgent.count_by_sums.Statement.{statement}
 use Rattle.judge.proofs.urgent.count_by_sums.Tie as tie
@@ -47,21 +47,16 @@ own-part-requires : tie.Need-own-part-requires Inv-loop μ-loop
 own-part-requires c κs = search needs
 
 -- What the test computes with: the spare is small, and so is its product with the cores.
-record Small (cores D B : ℕ) : Type 0 where
-  pub spare-small : D - B ≤ 1_000_000
-  pub product-small : cores * (D - B) ≤ 16_000_000
-
-small :
-    (l : tie.In-loop Inv-loop μ-loop)
-    → Small (l .before .before .args .cores) (getD (l .before .before .args .deadlines .now) (l .before .loop .k) 0)
-    (getD (l .before .before .args .budgets .now) (l .before .loop .k) 0)
+small : (l : tie.In-loop Inv-loop μ-loop) →
+    let a = l .before .before .args in
+    let spare = getD (a .deadlines .now) (l .before .loop .k) 0 - getD (a .budgets .now) (l .before .loop .k) 0 in
+    (spare ≤ 1_000_000) × (a .cores * spare ≤ 16_000_000)
 small l =
     let p = l .before .before .pre in
-    let k = l .before .loop .k in
     let a = l .before .before .args in
-    let spare = getD (a .deadlines .now) k 0 - getD (a .budgets .now) k 0 in
-    let spare-small : spare ≤ 1_000_000 = omega (arith, p .1 .1 k (omega arith)) in
-    record { spare-small = spare-small; product-small = omega (arith, mul-le-mul-right spare (p .0 .1)) }
+    let k = l .before .loop .k in
+    let spare-small : getD (a .deadlines .now) k 0 - getD (a .budgets .now) k 0 ≤ 1_000_000 = omega (arith, p .1 .1 k (omega arith)) in
+    (spare-small, omega (arith, mul-le-mul-right (getD (a .deadlines .now) k 0 - getD (a .budgets .now) k 0) (p .0 .1)))
 
 cast-if1 : tie.Need-cast-if1 Inv-loop μ-loop
 cast-if1 c = omega (arith, small (c .before .before .before))
@@ -95,20 +90,12 @@ loop-again c =
     let a = l .before .args in
     let least-sum = needed (a .cores) (getD (a .deadlines .now) (l .loop .k) 0) (getD (a .budgets .now) (l .loop .k) 0) in
     let sum = getD (a .sums .now) (l .loop .k) 0 in
-    ⊎-elim
-    (λ w.
-    let e = le-leb least-sum sum (omega (arith, w .0 .taken, m .own-part .ensures)) in (
-      omega arith,
-      rw (add-one (l .loop .k)) (omega (arith, w .1, l .loop .inv, bit-true _ e)),
-      omega (arith, w .1, l .loop .inv),
-    ))
-    (λ w.
-    let e = lt-leb least-sum sum (omega (arith, w .0 .left, m .own-part .ensures)) in (
-      omega arith,
-      rw (add-one (l .loop .k)) (omega (arith, w .1, l .loop .inv, bit-false _ e)),
-      omega (arith, w .1, l .loop .inv),
-    ))
-    (c .if1 .came)
+    let counted : c .if1 .urgent ≡ l .loop .urgent + bit (leb least-sum sum)
+    = ⊎-elim
+    (λ w. omega (arith, w .1, bit-true _ (le-leb least-sum sum (omega (arith, w .0 .taken, m .own-part .ensures)))))
+    (λ w. omega (arith, w .1, bit-false _ (lt-leb least-sum sum (omega (arith, w .0 .left, m .own-part .ensures)))))
+    (c .if1 .came) in
+    (omega arith, rw (add-one (l .loop .k)) (omega (arith, l .loop .inv)), omega (arith, l .loop .inv, bit-small (leb least-sum sum)))
 
 returns : tie.Need-returns Inv-loop μ-loop
 returns c =

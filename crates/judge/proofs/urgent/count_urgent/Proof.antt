@@ -10,9 +10,9 @@ use Rattle.judge.proofs.urgent.count_urgent.Tie as tie
 numbers-of-requires : tie.Need-numbers-of-requires
 numbers-of-requires c κs = search needs
 
-lists :
-    (c : tie.After-numbers-of)
-    → Lists (c .before .args .tasks) (c .before .args .count) (c .numbers-of .result .periods) (c .numbers-of .result .budgets) (c .numbers-of .result .deadlines)
+lists : (c : tie.After-numbers-of) →
+    let numbers = c .numbers-of .result in
+    Lists (c .before .args .tasks) (c .before .args .count) (numbers .periods) (numbers .budgets) (numbers .deadlines)
 lists c =
     record {
       same-period = c .numbers-of .ensures .0;
@@ -36,7 +36,8 @@ returns : tie.Need-returns
 returns c =
     let w = c .before .before .before .before .before in
     let d = w .before .before .before .before .before .before in
-    count-listed _ _ _ _ _ (lists d) (d .before .args .cores) (w .window-sums .last .1 .1 .1 .0) (w .window-sums .ensures) _ (c .count-by-sums .ensures)
+    let sums = w .window-sums in
+    count-listed _ _ _ _ _ (lists d) (d .before .args .cores) (sums .last .1 .1 .1 .0) (sums .ensures) _ (c .count-by-sums .ensures)
 
 pub count-urgent-spec : {M : Type 1} → statement M
 count-urgent-spec =

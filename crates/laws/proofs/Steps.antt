@@ -1,0 +1,10 @@
+-- A function of an index that does not fall from one index to the next. Others cite `by-steps`, that it does not fall at all.
+use Prim.Native.Nat.{ℕ, zero, suc, _≤_}
+use mathlib.Core.Path.{_≡_}
+use native.Mathlib.Nat.{le-refl, le-trans}
+use native.Mathlib.Omega.{arith}
+use Rattle.laws.proofs.CaseSplits.{by-equal}
+
+pub by-steps : (f : ℕ → ℕ) → ((n : ℕ) → f n ≤ f (suc n)) → (n p : ℕ) → n ≤ p → f n ≤ f p
+by-steps f step n zero h = let e : n ≡ 0 = omega arith in rw e (le-refl _)
+by-steps f step n (suc p) h = by-equal n (suc p) (λ e. rw e (le-refl _)) (λ ne. le-trans (by-steps f step n p (omega arith)) (step p))
