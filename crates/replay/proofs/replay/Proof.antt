@@ -1,4 +1,4 @@
--- `replay` meets its contract: by the script's length, its first line, and the line of its calls.
+-- `replay` meets its contract: by the script's length, its first line, and the line of its calls. The file is long for its 32 needs.
 use Prim.Native.Nat.{ℕ, _+_, _≤_, _<_}
 use native.Mathlib.Nat.{le-of-lt}
 use native.Mathlib.Omega.{arith}

@@ -1,4 +1,4 @@
--- `call_line` meets its contract: the words are tried in turn.
+-- `call_line` meets its contract: the words are tried in turn. The file is long for its 24 needs.
 use Prim.Native.Nat.{ℕ, _≤_}
 use mathlib.Core.Path.{_≡_, sym, ap, _∙_}
 use mathlib.Core.Bool.{true, false, cond}
