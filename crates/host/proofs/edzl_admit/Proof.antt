@@ -30,12 +30,6 @@ told :
     ≡ Refused (c .verdict .given .0 .0) (c .verdict .given .0 .1 .0)
 told c = refused-outcome _ _ _ _ (sym (ap valuesOf (c .verdict .given .1)) ∙ c .before .before .judge .ensures)
 
-read-requires : tie.Need-read-requires
-read-requires c κs = search needs
-
-enum-known-outcome : tie.Need-enum-known-outcome
-enum-known-outcome c = search needs
-
 add-result : tie.Need-add-result
 add-result c = omega (arith, small (c .before))
 
@@ -43,23 +37,8 @@ returns : tie.Need-returns
 unfolding hostAnswer answerAfter
 returns c = rw (refused (c .before))
 
-enum-told : tie.Need-enum-told
-enum-told c = search needs
-
-judge-requires : tie.Need-judge-requires
-judge-requires c κs = search needs
-
-enum-known-verdict : tie.Need-enum-known-verdict
-enum-known-verdict c = search needs
-
 add-result-2 : tie.Need-add-result-2
 add-result-2 c = omega (arith, checked-below _ _ _ _ (told (c .before)))
-
-enum-known-verdict-2 : tie.Need-enum-known-verdict-2
-enum-known-verdict-2 c = search needs
-
-cast-result : tie.Need-cast-result
-cast-result c = search needs
 
 returns-2 : tie.Need-returns-2
 unfolding hostAnswer answerAfter answerNumber
@@ -80,15 +59,15 @@ pub edzl-admit-spec : {M : Type 1} → statement M
 edzl-admit-spec =
     tie.close
     (tie.spec
-    read-requires
-    enum-known-outcome
+    (λ c κs. search needs)
+    (λ c. search needs)
     add-result
     returns
-    enum-told
-    judge-requires
-    enum-known-verdict
+    (λ c. search needs)
+    (λ c κs. search needs)
+    (λ c. search needs)
     add-result-2
-    enum-known-verdict-2
-    cast-result
+    (λ c. search needs)
+    (λ c. search needs)
     returns-2
     returns-3)

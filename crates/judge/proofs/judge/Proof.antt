@@ -8,20 +8,11 @@ use borrow.Author.Needs.{needs}
 use Rattle.judge.proofs.judge.Statement.{statement}
 use Rattle.judge.proofs.judge.Tie as tie
 
-check-requires : tie.Need-check-requires
-check-requires c κs = search needs
-
-enum-known-outcome : tie.Need-enum-known-outcome
-enum-known-outcome c = search needs
-
 returns : tie.Need-returns
 unfolding judged judgedAfter valuesOf
 returns c =
     let d = c .before .before .before in
     rw (← d .check .ensures, c .before .outcome .given .1)
-
-enum-told : tie.Need-enum-told
-enum-told c = search needs
 
 count-urgent-requires : tie.Need-count-urgent-requires
 count-urgent-requires c κs =
@@ -39,4 +30,10 @@ returns-2 c =
 pub judge-spec : {M : Type 1} → statement M
 judge-spec =
     tie.close
-    (tie.spec check-requires enum-known-outcome returns enum-told count-urgent-requires returns-2)
+    (tie.spec
+    (λ c κs. search needs)
+    (λ c. search needs)
+    returns
+    (λ c. search needs)
+    count-urgent-requires
+    returns-2)

@@ -5,9 +5,6 @@ use Rattle.reader.specs.Reading.{ended}
 use Rattle.reader.proofs.end.Statement.{statement}
 use Rattle.reader.proofs.end.Tie as tie
 
-refusal-requires : tie.Need-refusal-requires
-refusal-requires c κs = search needs
-
 returns : tie.Need-returns
 unfolding ended
 returns c = rw (eq-eqb _ _ (c .before .if1 .taken)) (c .refusal .ensures)
@@ -17,4 +14,8 @@ unfolding ended
 returns-2 c = rw (ne-eqb _ _ (c .if1 .left))
 
 pub end-spec : {M : Type 1} → statement M
-end-spec = tie.close (tie.spec refusal-requires returns returns-2)
+end-spec = tie.close
+    (tie.spec
+    (λ c κs. search needs)
+    returns
+    returns-2)

@@ -7,24 +7,9 @@ use Rattle.reader.proofs.NamesLine.{names-read, names-broken}
 use Rattle.reader.proofs.read.Statement.{statement}
 use Rattle.reader.proofs.read.Tie as tie
 
-refusal-requires : tie.Need-refusal-requires
-refusal-requires c κs = search needs
-
 returns : tie.Need-returns
 unfolding reading
 returns c = rw (lt-ltb _ _ (c .before .if1 .taken)) (c .refusal .ensures)
-
-names-line-requires : tie.Need-names-line-requires
-names-line-requires c κs = search needs
-
-enum-known-columns : tie.Need-enum-known-columns
-enum-known-columns c = search needs
-
-enum-told : tie.Need-enum-told
-enum-told c = search needs
-
-refusal-requires-2 : tie.Need-refusal-requires-2
-refusal-requires-2 c κs = search needs
 
 returns-2 : tie.Need-returns-2
 unfolding reading
@@ -38,12 +23,6 @@ sub-value-lines c = names-read _ _ _ (sym (c .before .before .before .names-line
 part-value-lines-start : tie.Need-part-value-lines-start
 part-value-lines-start c = names-read _ _ _ (sym (c .before .before .before .names-line .ensures) ∙ c .before .columns .given .1) .within
 
-part-value-lines-end : tie.Need-part-value-lines-end
-part-value-lines-end c = search needs
-
-value-lines-requires : tie.Need-value-lines-requires
-value-lines-requires c κs = search needs
-
 returns-3 : tie.Need-returns-3
 unfolding reading
 returns-3 c =
@@ -56,15 +35,15 @@ pub read-spec : {M : Type 1} → statement M
 read-spec =
     tie.close
     (tie.spec
-    refusal-requires
+    (λ c κs. search needs)
     returns
-    names-line-requires
-    enum-known-columns
-    enum-told
-    refusal-requires-2
+    (λ c κs. search needs)
+    (λ c. search needs)
+    (λ c. search needs)
+    (λ c κs. search needs)
     returns-2
     sub-value-lines
     part-value-lines-start
-    part-value-lines-end
-    value-lines-requires
+    (λ c. search needs)
+    (λ c κs. search needs)
     returns-3)

@@ -4,12 +4,12 @@ use Rattle.reader.specs.Reading.{refused}
 use Rattle.reader.proofs.refusal.Statement.{statement}
 use Rattle.reader.proofs.refusal.Tie as tie
 
-empty-requires : tie.Need-empty-requires
-empty-requires c κs = search needs
-
 returns : tie.Need-returns
 unfolding refused
 returns c = rw (c .empty .ensures)
 
 pub refusal-spec : {M : Type 1} → statement M
-refusal-spec = tie.close (tie.spec empty-requires returns)
+refusal-spec = tie.close
+    (tie.spec
+    (λ c κs. search needs)
+    returns)

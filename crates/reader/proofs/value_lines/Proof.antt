@@ -18,9 +18,6 @@ Inv-loop text columns table₀ count₀ rest₀ table count rest =
 abbrev μ-loop : tie.MeasureT-loop
 μ-loop text columns table₀ count₀ rest₀ table count rest = length rest
 
-empty-requires : tie.Need-empty-requires Inv-loop μ-loop
-empty-requires c κs = search needs
-
 loop-holds : tie.Need-loop-holds Inv-loop μ-loop
 loop-holds c = rw (c .empty .ensures) (begin _ _)
 
@@ -30,23 +27,8 @@ cast-place c = omega (arith, c .before .loop .inv .within)
 add-place : tie.Need-add-place Inv-loop μ-loop
 add-place c = omega (arith, c .before .loop .inv .within)
 
-refusal-requires : tie.Need-refusal-requires Inv-loop μ-loop
-refusal-requires c κs = search needs
-
 returns : tie.Need-returns Inv-loop μ-loop
 returns c = c .refusal .ensures ∙ too-many _ _ _ _ _ (c .before .before .before .loop .inv) (c .before .before .loop-test .taken) (c .before .if1 .taken)
-
-value-line-requires : tie.Need-value-line-requires Inv-loop μ-loop
-value-line-requires c κs = search needs
-
-enum-known-task : tie.Need-enum-known-task Inv-loop μ-loop
-enum-known-task c = search needs
-
-enum-told : tie.Need-enum-told Inv-loop μ-loop
-enum-told c = search needs
-
-refusal-requires-2 : tie.Need-refusal-requires-2 Inv-loop μ-loop
-refusal-requires-2 c κs = search needs
 
 returns-2 : tie.Need-returns-2 Inv-loop μ-loop
 returns-2 c =
@@ -54,12 +36,6 @@ returns-2 c =
     c .refusal2 .ensures
     ∙ bad-line _ _ _ _ _ (d .before .before .loop .inv) (d .before .loop-test .taken) (d .if1 .left)
     (sym (c .before .before .before .value-line .ensures) ∙ c .before .enum-told .given .1)
-
-in-range-requires : tie.Need-in-range-requires Inv-loop μ-loop
-in-range-requires c κs = search needs
-
-refusal-requires-3 : tie.Need-refusal-requires-3 Inv-loop μ-loop
-refusal-requires-3 c κs = search needs
 
 returns-3 : tie.Need-returns-3 Inv-loop μ-loop
 returns-3 c =
@@ -91,9 +67,6 @@ part-rest-start c =
     line-fits _ _ _ _ _ (d .before .before .loop .inv) (d .before .loop-test .taken) (d .if1 .left) _ _
     (sym (c .before .before .before .before .before .value-line .ensures) ∙ c .before .before .before .task .given .1)
 
-part-rest-end : tie.Need-part-rest-end Inv-loop μ-loop
-part-rest-end c = search needs
-
 loop-less : tie.Need-loop-less Inv-loop μ-loop
 loop-less c =
     let e = c .before in
@@ -109,9 +82,6 @@ loop-again c =
     (sym (e .before .before .before .before .before .value-line .ensures) ∙ e .before .before .before .task .given .1)
     (sym (e .before .in-range .ensures) ∙ not-false _ (e .if2 .left))
 
-end-requires : tie.Need-end-requires Inv-loop μ-loop
-end-requires c κs = search needs
-
 returns-4 : tie.Need-returns-4 Inv-loop μ-loop
 returns-4 c = c .end .ensures ∙ finish _ _ _ _ _ (c .before .before .loop .inv) (c .before .loop-test .left)
 
@@ -121,27 +91,27 @@ value-lines-spec =
     (tie.spec
     Inv-loop
     μ-loop
-    empty-requires
+    (λ c κs. search needs)
     loop-holds
     cast-place
     add-place
-    refusal-requires
+    (λ c κs. search needs)
     returns
-    value-line-requires
-    enum-known-task
-    enum-told
-    refusal-requires-2
+    (λ c κs. search needs)
+    (λ c. search needs)
+    (λ c. search needs)
+    (λ c κs. search needs)
     returns-2
-    in-range-requires
-    refusal-requires-3
+    (λ c κs. search needs)
+    (λ c κs. search needs)
     returns-3
     mul-task
     element-set-from-task
     add-count
     sub-rest
     part-rest-start
-    part-rest-end
+    (λ c. search needs)
     loop-less
     loop-again
-    end-requires
+    (λ c κs. search needs)
     returns-4)

@@ -29,12 +29,6 @@ kept c = put-size _ _ _ _ _ (c .loop .inv .0 .left .put)
 loop-holds : tie.Need-loop-holds Inv-loop μ-loop
 loop-holds c = (play-none _ _ _ _, omega arith)
 
-find-requires : tie.Need-find-requires Inv-loop μ-loop
-find-requires c κs = search needs
-
-put-bad-line-requires : tie.Need-put-bad-line-requires Inv-loop μ-loop
-put-bad-line-requires c κs = search needs
-
 same-length : tie.Need-same-length Inv-loop μ-loop
 same-length c = let b = c .before .before in put-size _ _ _ _ _ (b .put-bad-line .ensures .put) ∙ kept (b .before .before .before .before .before)
 
@@ -48,15 +42,6 @@ returns c =
 slice-aggregate-call-line : tie.Need-slice-aggregate-call-line Inv-loop μ-loop
 slice-aggregate-call-line c = sym (length-take-le _ _ (le-of-lt (c .before .if1 .left)))
 
-call-line-requires : tie.Need-call-line-requires Inv-loop μ-loop
-call-line-requires c κs = search needs
-
-enum-known-call : tie.Need-enum-known-call Inv-loop μ-loop
-enum-known-call c = search needs
-
-enum-told : tie.Need-enum-told Inv-loop μ-loop
-enum-told c = search needs
-
 -- the line of a call, which ends within the rest of the text
 abbrev at-line : tie.Else1 Inv-loop μ-loop → tie.At-loop Inv-loop μ-loop
 at-line c = c .before .before .before
@@ -68,9 +53,6 @@ call-is :
     (c : tie.After-call Inv-loop μ-loop)
     → let e = line-of c in callOf (take (e .before .find .result) (at-line e .loop .rest .now)) ≡ Read (c .call .given .0 .0)
 call-is c = sym (c .before .before .call-line .ensures) ∙ c .call .given .1
-
-put-bad-line-requires-2 : tie.Need-put-bad-line-requires-2 Inv-loop μ-loop
-put-bad-line-requires-2 c κs = search needs
 
 same-length-2 : tie.Need-same-length-2 Inv-loop μ-loop
 same-length-2 c =
@@ -85,12 +67,6 @@ returns-2 c =
     let e = d .before .before in
     no-call _ _ _ _ _ _ _ _ (at-line e .loop .inv .0) _ _ (b .put-bad-line2 .ensures) _ (e .before .find .ensures) (e .if1 .left)
     (sym (d .call-line .ensures) ∙ t .enum-told .given .1)
-
-step-requires : tie.Need-step-requires Inv-loop μ-loop
-step-requires c κs = search needs
-
-put-answer-requires : tie.Need-put-answer-requires Inv-loop μ-loop
-put-answer-requires c κs = search needs
 
 -- from the place after the call's answer to the line
 abbrev answered-at : tie.After-machine Inv-loop μ-loop → tie.After-call Inv-loop μ-loop
@@ -109,9 +85,6 @@ sub-rest c = omega (arith, ended c)
 
 part-rest-start : tie.Need-part-rest-start Inv-loop μ-loop
 part-rest-start c = omega (arith, ended c)
-
-part-rest-end : tie.Need-part-rest-end Inv-loop μ-loop
-part-rest-end c = search needs
 
 add-line : tie.Need-add-line Inv-loop μ-loop
 add-line c = let l = at-line (line-of (answered-at (c .before))) in omega (arith, ended (c .before), l .loop .inv .1, l .before .before .before .pre, l .before .before .before .good)
@@ -148,23 +121,23 @@ play-spec =
     Inv-loop
     μ-loop
     loop-holds
-    find-requires
-    put-bad-line-requires
+    (λ c κs. search needs)
+    (λ c κs. search needs)
     same-length
     returns
     slice-aggregate-call-line
-    call-line-requires
-    enum-known-call
-    enum-told
-    put-bad-line-requires-2
+    (λ c κs. search needs)
+    (λ c. search needs)
+    (λ c. search needs)
+    (λ c κs. search needs)
     same-length-2
     returns-2
-    step-requires
-    put-answer-requires
+    (λ c κs. search needs)
+    (λ c κs. search needs)
     add-rest
     sub-rest
     part-rest-start
-    part-rest-end
+    (λ c. search needs)
     add-line
     loop-less
     loop-again

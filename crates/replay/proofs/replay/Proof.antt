@@ -62,12 +62,6 @@ text-few c = omega (arith, script-few (c .before .before), from-length (script c
 has-room : (c : tie.Else2) → room ≤ length (c .before .before .before .before .before .args .output .now)
 has-room c = c .before .before .before .before .before .pre
 
-put-refused-requires : tie.Need-put-refused-requires
-put-refused-requires c κs = search needs
-
-same-length : tie.Need-same-length
-same-length c = search needs
-
 returns : tie.Need-returns
 unfolding printed
 returns c =
@@ -75,15 +69,6 @@ returns c =
     let t = p .before .before in
     let h : 65536 < length (t .before .before .before .args .script .now) = omega (arith, t .if1 .taken) in
     rw (lt-ltb _ _ h) (line-all _ _ _ _ _ (omega (arith, t .before .before .before .pre)) (refused-put refusalRoom (omega arith) _ _ _ _ _ (omega arith) (p .put-refused .ensures)))
-
-find-requires : tie.Need-find-requires
-find-requires c κs = search needs
-
-put-bad-line-requires : tie.Need-put-bad-line-requires
-put-bad-line-requires c κs = search needs
-
-same-length-2 : tie.Need-same-length-2
-same-length-2 c = search needs
 
 returns-2 : tie.Need-returns-2
 returns-2 c =
@@ -95,24 +80,6 @@ returns-2 c =
 slice-aggregate-number-after : tie.Need-slice-aggregate-number-after
 slice-aggregate-number-after c = sym (length-take-le _ _ (le-of-lt (c .before .if2 .left)))
 
-slice-aggregate-number-after-2 : tie.Need-slice-aggregate-number-after-2
-slice-aggregate-number-after-2 c = search needs
-
-number-after-requires : tie.Need-number-after-requires
-number-after-requires c κs = search needs
-
-enum-known-cores : tie.Need-enum-known-cores
-enum-known-cores c = search needs
-
-enum-told : tie.Need-enum-told
-enum-told c = search needs
-
-put-bad-line-requires-2 : tie.Need-put-bad-line-requires-2
-put-bad-line-requires-2 c κs = search needs
-
-same-length-3 : tie.Need-same-length-3
-same-length-3 c = search needs
-
 returns-3 : tie.Need-returns-3
 returns-3 c =
     let p = c .before .before in
@@ -121,30 +88,6 @@ returns-3 c =
     let e = n .before .before .before in
     rw (first-broken _ (script-few (e .before .before)) _ (e .before .find .ensures) (e .if2 .left) (sym (n .number-after .ensures) ∙ t .enum-told .given .1))
     (line-all _ _ _ _ _ (omega (arith, has-room e)) (p .put-bad-line2 .ensures))
-
-add-text : tie.Need-add-text
-add-text c = search needs
-
-sub-text : tie.Need-sub-text
-sub-text c = search needs
-
-part-text-start : tie.Need-part-text-start
-part-text-start c = search needs
-
-part-text-end : tie.Need-part-text-end
-part-text-end c = search needs
-
-find-calls-requires : tie.Need-find-calls-requires
-find-calls-requires c κs = search needs
-
-enum-known-line : tie.Need-enum-known-line
-enum-known-line c = search needs
-
-put-bad-line-requires-3 : tie.Need-put-bad-line-requires-3
-put-bad-line-requires-3 c κs = search needs
-
-enum-known-table : tie.Need-enum-known-table
-enum-known-table c = search needs
 
 slice-aggregate-run : tie.Need-slice-aggregate-run
 slice-aggregate-run c = sym (length-take-le _ _ (found (c .before .before) .ends))
@@ -155,16 +98,10 @@ sub-run c = found (c .before .before) .starts
 part-run-start : tie.Need-part-run-start
 part-run-start c = found (c .before .before) .starts
 
-part-run-end : tie.Need-part-run-end
-part-run-end c = search needs
-
 run-requires : tie.Need-run-requires
 run-requires c κs =
     let t = c .before .before .before .before in
     omega (arith, found t .few, text-few (line-of (cores-of (t .before .before))))
-
-same-length-4 : tie.Need-same-length-4
-same-length-4 c = search needs
 
 returns-4 : tie.Need-returns-4
 unfolding printedAfterCores
@@ -172,9 +109,6 @@ returns-4 c =
     let p = c .before .before in
     let l = p .before .before .before in
     rw (printed-is (l .before .before) _ (l .line .given .1)) (line-all _ _ _ _ _ (omega (arith, has-room (line-of (cores-of (l .before .before))))) (p .put-bad-line3 .ensures))
-
-same-length-5 : tie.Need-same-length-5
-same-length-5 c = search needs
 
 returns-5 : tie.Need-returns-5
 unfolding printedAfterCores
@@ -190,35 +124,35 @@ pub replay-spec : {M : Type 1} → statement M
 replay-spec =
     tie.close
     (tie.spec
-    put-refused-requires
-    same-length
+    (λ c κs. search needs)
+    (λ c. search needs)
     returns
-    find-requires
-    put-bad-line-requires
-    same-length-2
+    (λ c κs. search needs)
+    (λ c κs. search needs)
+    (λ c. search needs)
     returns-2
     slice-aggregate-number-after
-    slice-aggregate-number-after-2
-    number-after-requires
-    enum-known-cores
-    enum-told
-    put-bad-line-requires-2
-    same-length-3
+    (λ c. search needs)
+    (λ c κs. search needs)
+    (λ c. search needs)
+    (λ c. search needs)
+    (λ c κs. search needs)
+    (λ c. search needs)
     returns-3
-    add-text
-    sub-text
-    part-text-start
-    part-text-end
-    find-calls-requires
-    enum-known-line
-    put-bad-line-requires-3
-    enum-known-table
+    (λ c. search needs)
+    (λ c. search needs)
+    (λ c. search needs)
+    (λ c. search needs)
+    (λ c κs. search needs)
+    (λ c. search needs)
+    (λ c κs. search needs)
+    (λ c. search needs)
     slice-aggregate-run
     sub-run
     part-run-start
-    part-run-end
+    (λ c. search needs)
     run-requires
-    same-length-4
+    (λ c. search needs)
     returns-4
-    same-length-5
+    (λ c. search needs)
     returns-5)

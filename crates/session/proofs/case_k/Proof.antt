@@ -13,27 +13,6 @@ use Rattle.session.proofs.Playing.{session-lines}
 use Rattle.session.proofs.case_k.Statement.{statement}
 use Rattle.session.proofs.case_k.Tie as tie
 
-empty-requires : tie.Need-empty-requires
-empty-requires c κs = search needs
-
-task-requires : tie.Need-task-requires
-task-requires c κs = search needs
-
-element-set-from-table : tie.Need-element-set-from-table
-element-set-from-table c = search needs
-
-task-requires-2 : tie.Need-task-requires-2
-task-requires-2 c κs = search needs
-
-element-set-from-table-2 : tie.Need-element-set-from-table-2
-element-set-from-table-2 c = search needs
-
-start-requires : tie.Need-start-requires
-start-requires c κs = search needs
-
-released-requires : tie.Need-released-requires
-released-requires c κs = search needs
-
 -- the table that the code makes
 table-is :
     (e : Table) (t₁ t₂ : Task) → e ≡ emptyTable → t₁ ≡ task 5 5 5 → t₂ ≡ task 5 5 5
@@ -54,11 +33,11 @@ pub case-k-spec : {M : Type 1} → statement M
 case-k-spec =
     tie.close
     (tie.spec
-    empty-requires
-    task-requires
-    element-set-from-table
-    task-requires-2
-    element-set-from-table-2
-    start-requires
-    released-requires
+    (λ c κs. search needs)
+    (λ c κs. search needs)
+    (λ c. search needs)
+    (λ c κs. search needs)
+    (λ c. search needs)
+    (λ c κs. search needs)
+    (λ c κs. search needs)
     returns)

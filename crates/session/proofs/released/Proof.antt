@@ -17,15 +17,6 @@ abbrev μ-loop : tie.MeasureT-loop
 loop-holds : tie.Need-loop-holds Inv-loop μ-loop
 loop-holds c = (omega arith, released-none _)
 
-add-number : tie.Need-add-number Inv-loop μ-loop
-add-number c = omega arith
-
-release-requires : tie.Need-release-requires Inv-loop μ-loop
-release-requires c κs = search needs
-
-loop-less : tie.Need-loop-less Inv-loop μ-loop
-loop-less c = omega arith
-
 loop-again : tie.Need-loop-again Inv-loop μ-loop
 loop-again c =
     let r = c .before in
@@ -41,4 +32,12 @@ returns c =
 pub released-spec : {M : Type 1} → statement M
 released-spec =
     tie.close
-    (tie.spec Inv-loop μ-loop loop-holds add-number release-requires loop-less loop-again returns)
+    (tie.spec
+    Inv-loop
+    μ-loop
+    loop-holds
+    (λ c. omega arith)
+    (λ c κs. search needs)
+    (λ c. omega arith)
+    loop-again
+    returns)

@@ -22,21 +22,6 @@ both a b d s t v w p q e f h =
     let l : length (s ++ t) ≤ length a = rw z at (le-trans printed-few h) in
     rw z (put-all a (s ++ t) d w (put-then a 0 s b v p t d w q) l)
 
-case-j-requires : tie.Need-case-j-requires
-case-j-requires c κs = search needs
-
-play-requires : tie.Need-play-requires
-play-requires c κs = search needs
-
-case-k-requires : tie.Need-case-k-requires
-case-k-requires c κs = search needs
-
-play-requires-2 : tie.Need-play-requires-2
-play-requires-2 c κs = search needs
-
-same-length : tie.Need-same-length
-same-length c = search needs
-
 returns : tie.Need-returns
 returns c =
     let k = c .before .before in
@@ -46,4 +31,10 @@ returns c =
 pub sessions-spec : {M : Type 1} → statement M
 sessions-spec =
     tie.close
-    (tie.spec case-j-requires play-requires case-k-requires play-requires-2 same-length returns)
+    (tie.spec
+    (λ c κs. search needs)
+    (λ c κs. search needs)
+    (λ c κs. search needs)
+    (λ c κs. search needs)
+    (λ c. search needs)
+    returns)

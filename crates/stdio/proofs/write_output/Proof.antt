@@ -6,18 +6,17 @@ use borrow.Author.Needs.{needs}
 use Rattle.stdio.proofs.write_output.Statement.{statement}
 use Rattle.stdio.proofs.write_output.Tie as tie
 
-returns : tie.Need-returns
-returns c = search needs
-
 slice-aggregate-write-all : tie.Need-slice-aggregate-write-all
 slice-aggregate-write-all c = sym (length-take-le _ _ (c .before .if1 .left))
-
-write-all-requires : tie.Need-write-all-requires
-write-all-requires c κs = search needs
 
 returns-2 : tie.Need-returns-2
 returns-2 c = λ h. absurd (omega (arith, h, c .before .before .if1 .left))
 
 pub write-output-spec : {M : Type 1} → statement M
 write-output-spec =
-    tie.close (tie.spec returns slice-aggregate-write-all write-all-requires returns-2)
+    tie.close
+    (tie.spec
+    (λ c. search needs)
+    slice-aggregate-write-all
+    (λ c κs. search needs)
+    returns-2)

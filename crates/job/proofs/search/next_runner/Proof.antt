@@ -27,29 +27,11 @@ abbrev μ-candidates : tie.MeasureT-candidates
 candidates-holds : tie.Need-candidates-holds Inv-rivals μ-rivals Inv-candidates μ-candidates
 candidates-holds c = (omega arith, reached-start)
 
-mul-waits : tie.Need-mul-waits Inv-rivals μ-rivals Inv-candidates μ-candidates
-mul-waits c = omega arith
-
-shared-slice-read-waits : tie.Need-shared-slice-read-waits Inv-rivals μ-rivals Inv-candidates μ-candidates
-shared-slice-read-waits c = omega arith
-
-waits-requires : tie.Need-waits-requires Inv-rivals μ-rivals Inv-candidates μ-candidates
-waits-requires c κs = search needs
-
-add-candidate : tie.Need-add-candidate Inv-rivals μ-rivals Inv-candidates μ-candidates
-add-candidate c = omega arith
-
-candidates-less : tie.Need-candidates-less Inv-rivals μ-rivals Inv-candidates μ-candidates
-candidates-less c = omega arith
-
 candidates-again : tie.Need-candidates-again Inv-rivals μ-rivals Inv-candidates μ-candidates
 candidates-again c =
     let w = c .before in
     let l = w .before .before .before in
     (omega arith, reached-idle (l .candidates .inv .1) (sym (w .waits .ensures) ∙ not-true _ (c .if1 .taken)))
-
-add-rival : tie.Need-add-rival Inv-rivals μ-rivals Inv-candidates μ-candidates
-add-rival c = omega arith
 
 rivals-holds : tie.Need-rivals-holds Inv-rivals μ-rivals Inv-candidates μ-candidates
 rivals-holds c =
@@ -57,44 +39,11 @@ rivals-holds c =
     let l = w .before .before .before in
     (refl, omega arith, reached-waiting (l .candidates .inv .1) (sym (w .waits .ensures) ∙ not-false _ (c .if1 .left)))
 
-mul-waits-2 : tie.Need-mul-waits-2 Inv-rivals μ-rivals Inv-candidates μ-candidates
-mul-waits-2 c = omega arith
-
-shared-slice-read-waits-2 : tie.Need-shared-slice-read-waits-2 Inv-rivals μ-rivals Inv-candidates μ-candidates
-shared-slice-read-waits-2 c = omega arith
-
-waits-requires-2 : tie.Need-waits-requires-2 Inv-rivals μ-rivals Inv-candidates μ-candidates
-waits-requires-2 c κs = search needs
-
-add-rival-2 : tie.Need-add-rival-2 Inv-rivals μ-rivals Inv-candidates μ-candidates
-add-rival-2 c = omega arith
-
-rivals-less : tie.Need-rivals-less Inv-rivals μ-rivals Inv-candidates μ-candidates
-rivals-less c = omega arith
-
 rivals-again : tie.Need-rivals-again Inv-rivals μ-rivals Inv-candidates μ-candidates
 rivals-again c =
     let w = c .before in
     let l = w .before .before .before in
     (l .rivals .inv .0, omega arith, least-past-idle (l .rivals .inv .2) (sym (w .waits2 .ensures) ∙ not-true _ (c .if2 .taken)))
-
-mul-precedes : tie.Need-mul-precedes Inv-rivals μ-rivals Inv-candidates μ-candidates
-mul-precedes c = omega arith
-
-shared-slice-read-precedes : tie.Need-shared-slice-read-precedes Inv-rivals μ-rivals Inv-candidates μ-candidates
-shared-slice-read-precedes c = omega arith
-
-mul-precedes-2 : tie.Need-mul-precedes-2 Inv-rivals μ-rivals Inv-candidates μ-candidates
-mul-precedes-2 c = omega arith
-
-shared-slice-read-precedes-2 : tie.Need-shared-slice-read-precedes-2 Inv-rivals μ-rivals Inv-candidates μ-candidates
-shared-slice-read-precedes-2 c = omega arith
-
-precedes-requires : tie.Need-precedes-requires Inv-rivals μ-rivals Inv-candidates μ-candidates
-precedes-requires c κs = search needs
-
-candidates-less-2 : tie.Need-candidates-less-2 Inv-rivals μ-rivals Inv-candidates μ-candidates
-candidates-less-2 c = omega arith
 
 candidates-again-2 : tie.Need-candidates-again-2 Inv-rivals μ-rivals Inv-candidates μ-candidates
 candidates-again-2 c =
@@ -102,20 +51,11 @@ candidates-again-2 c =
     let t = p .before .before .before .before .before .before in
     (omega arith, reached-rival (t .before .rivals .inv .2) (t .rivals-test .taken) (sym (p .precedes .ensures) ∙ c .if3 .taken))
 
-add-rival-3 : tie.Need-add-rival-3 Inv-rivals μ-rivals Inv-candidates μ-candidates
-add-rival-3 c = omega arith
-
-rivals-less-2 : tie.Need-rivals-less-2 Inv-rivals μ-rivals Inv-candidates μ-candidates
-rivals-less-2 c = omega arith
-
 rivals-again-2 : tie.Need-rivals-again-2 Inv-rivals μ-rivals Inv-candidates μ-candidates
 rivals-again-2 c =
     let p = c .before in
     let l = p .before .before .before .before .before .before .before in
     (l .rivals .inv .0, omega arith, least-stays (l .rivals .inv .2) (sym (p .precedes .ensures) ∙ c .if3 .left))
-
-add-result : tie.Need-add-result Inv-rivals μ-rivals Inv-candidates μ-candidates
-add-result c = omega arith
 
 returns : tie.Need-returns Inv-rivals μ-rivals Inv-candidates μ-candidates
 returns c =
@@ -139,30 +79,30 @@ next-runner-spec =
     Inv-candidates
     μ-candidates
     candidates-holds
-    mul-waits
-    shared-slice-read-waits
-    waits-requires
-    add-candidate
-    candidates-less
+    (λ c. omega arith)
+    (λ c. omega arith)
+    (λ c κs. search needs)
+    (λ c. omega arith)
+    (λ c. omega arith)
     candidates-again
-    add-rival
+    (λ c. omega arith)
     rivals-holds
-    mul-waits-2
-    shared-slice-read-waits-2
-    waits-requires-2
-    add-rival-2
-    rivals-less
+    (λ c. omega arith)
+    (λ c. omega arith)
+    (λ c κs. search needs)
+    (λ c. omega arith)
+    (λ c. omega arith)
     rivals-again
-    mul-precedes
-    shared-slice-read-precedes
-    mul-precedes-2
-    shared-slice-read-precedes-2
-    precedes-requires
-    candidates-less-2
+    (λ c. omega arith)
+    (λ c. omega arith)
+    (λ c. omega arith)
+    (λ c. omega arith)
+    (λ c κs. search needs)
+    (λ c. omega arith)
     candidates-again-2
-    add-rival-3
-    rivals-less-2
+    (λ c. omega arith)
+    (λ c. omega arith)
     rivals-again-2
-    add-result
+    (λ c. omega arith)
     returns
     returns-2)

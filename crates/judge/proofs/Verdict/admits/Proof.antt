@@ -4,12 +4,6 @@ use borrow.Author.Needs.{needs}
 use Rattle.judge.proofs.Verdict.admits.Statement.{statement}
 use Rattle.judge.proofs.Verdict.admits.Tie as tie
 
-enum-known-self : tie.Need-enum-known-self
-enum-known-self c = search needs
-
-enum-told : tie.Need-enum-told
-enum-told c = search needs
-
 returns : tie.Need-returns
 unfolding valuesOf refusedValues
 returns c = rw (c .before .self .given .1)
@@ -19,4 +13,9 @@ unfolding valuesOf refusedValues
 returns-2 c = rw (c .enum-told .given .1)
 
 pub admits-spec : {M : Type 1} → statement M
-admits-spec = tie.close (tie.spec enum-known-self enum-told returns returns-2)
+admits-spec = tie.close
+    (tie.spec
+    (λ c. search needs)
+    (λ c. search needs)
+    returns
+    returns-2)

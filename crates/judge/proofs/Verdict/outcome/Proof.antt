@@ -4,19 +4,18 @@ use borrow.Author.Needs.{needs}
 use Rattle.judge.proofs.Verdict.outcome.Statement.{statement}
 use Rattle.judge.proofs.Verdict.outcome.Tie as tie
 
-enum-told : tie.Need-enum-told
-enum-told c = search needs
-
 returns : tie.Need-returns
 unfolding valuesOf refusedValues
 returns c = rw (c .enum-told .given .1)
-
-enum-known-self : tie.Need-enum-known-self
-enum-known-self c = search needs
 
 returns-2 : tie.Need-returns-2
 unfolding valuesOf refusedValues
 returns-2 c = rw (c .before .self .given .1)
 
 pub outcome-spec : {M : Type 1} → statement M
-outcome-spec = tie.close (tie.spec enum-told enum-known-self returns returns-2)
+outcome-spec = tie.close
+    (tie.spec
+    (λ c. search needs)
+    (λ c. search needs)
+    returns
+    returns-2)

@@ -23,36 +23,6 @@ loop-holds : tie.Need-loop-holds Inv-loop μ-loop
 unfolding replaced
 loop-holds c = (omega arith, refl, refl, refl)
 
-mul-task : tie.Need-mul-task Inv-loop μ-loop
-mul-task c = omega arith
-
-array-copy-out-task : tie.Need-array-copy-out-task Inv-loop μ-loop
-array-copy-out-task c = omega arith
-
-mul-numbers : tie.Need-mul-numbers Inv-loop μ-loop
-mul-numbers c = omega arith
-
-element-write-numbers : tie.Need-element-write-numbers Inv-loop μ-loop
-element-write-numbers c = omega arith
-
-mul-numbers-2 : tie.Need-mul-numbers-2 Inv-loop μ-loop
-mul-numbers-2 c = omega arith
-
-element-write-numbers-2 : tie.Need-element-write-numbers-2 Inv-loop μ-loop
-element-write-numbers-2 c = omega arith
-
-mul-numbers-3 : tie.Need-mul-numbers-3 Inv-loop μ-loop
-mul-numbers-3 c = omega arith
-
-element-write-numbers-3 : tie.Need-element-write-numbers-3 Inv-loop μ-loop
-element-write-numbers-3 c = omega arith
-
-add-i : tie.Need-add-i Inv-loop μ-loop
-add-i c = omega arith
-
-loop-less : tie.Need-loop-less Inv-loop μ-loop
-loop-less c = omega arith
-
 loop-again : tie.Need-loop-again Inv-loop μ-loop
 unfolding zeroTask
 loop-again c =
@@ -79,15 +49,15 @@ numbers-of-spec =
     Inv-loop
     μ-loop
     loop-holds
-    mul-task
-    array-copy-out-task
-    mul-numbers
-    element-write-numbers
-    mul-numbers-2
-    element-write-numbers-2
-    mul-numbers-3
-    element-write-numbers-3
-    add-i
-    loop-less
+    (λ c. omega arith)
+    (λ c. omega arith)
+    (λ c. omega arith)
+    (λ c. omega arith)
+    (λ c. omega arith)
+    (λ c. omega arith)
+    (λ c. omega arith)
+    (λ c. omega arith)
+    (λ c. omega arith)
+    (λ c. omega arith)
     loop-again
     returns)

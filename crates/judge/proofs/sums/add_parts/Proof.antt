@@ -18,35 +18,14 @@ Inv-loop period budget budgets deadlines sums₀ count inverse k₀ sums k =
 abbrev μ-loop : tie.MeasureT-loop
 μ-loop period budget budgets deadlines sums₀ count inverse k₀ sums k = count - k
 
-inverse-of-requires : tie.Need-inverse-of-requires Inv-loop μ-loop
-inverse-of-requires c κs = omega arith
-
 loop-holds : tie.Need-loop-holds Inv-loop μ-loop
 unfolding replaced
 loop-holds c = (omega arith, c .before .pre .1 .0 .1, refl)
-
-mul-window : tie.Need-mul-window Inv-loop μ-loop
-mul-window c = omega arith
-
-element-copy-out-window : tie.Need-element-copy-out-window Inv-loop μ-loop
-element-copy-out-window c = omega arith
-
-mul-spare : tie.Need-mul-spare Inv-loop μ-loop
-mul-spare c = omega arith
-
-element-copy-out-spare : tie.Need-element-copy-out-spare Inv-loop μ-loop
-element-copy-out-spare c = omega arith
 
 sub-spare : tie.Need-sub-spare Inv-loop μ-loop
 sub-spare c =
     let l = c .before .before .before in
     l .before .before .pre .1 .1 .0 (l .loop .k) (omega arith)
-
-mul-sums : tie.Need-mul-sums Inv-loop μ-loop
-mul-sums c = omega arith
-
-element-copy-out-sums : tie.Need-element-copy-out-sums Inv-loop μ-loop
-element-copy-out-sums c = omega arith
 
 part-of-requires : tie.Need-part-of-requires Inv-loop μ-loop
 part-of-requires c κs =
@@ -64,18 +43,6 @@ add-sums c =
     let p = l .before .before .pre .1 .1 .1 in
     omega (arith, c .part-of .ensures, p .0 (l .loop .k) (omega arith), p .1 (l .loop .k) (omega arith), sum-before l)
 
-mul-sums-2 : tie.Need-mul-sums-2 Inv-loop μ-loop
-mul-sums-2 c = omega arith
-
-element-write-sums : tie.Need-element-write-sums Inv-loop μ-loop
-element-write-sums c = omega arith
-
-add-k : tie.Need-add-k Inv-loop μ-loop
-add-k c = omega arith
-
-loop-less : tie.Need-loop-less Inv-loop μ-loop
-loop-less c = omega arith
-
 loop-again : tie.Need-loop-again Inv-loop μ-loop
 loop-again c =
     let l = c .before .before .before .before .before in
@@ -92,20 +59,20 @@ add-parts-spec =
     (tie.spec
     Inv-loop
     μ-loop
-    inverse-of-requires
+    (λ c κs. omega arith)
     loop-holds
-    mul-window
-    element-copy-out-window
-    mul-spare
-    element-copy-out-spare
+    (λ c. omega arith)
+    (λ c. omega arith)
+    (λ c. omega arith)
+    (λ c. omega arith)
     sub-spare
-    mul-sums
-    element-copy-out-sums
+    (λ c. omega arith)
+    (λ c. omega arith)
     part-of-requires
     add-sums
-    mul-sums-2
-    element-write-sums
-    add-k
-    loop-less
+    (λ c. omega arith)
+    (λ c. omega arith)
+    (λ c. omega arith)
+    (λ c. omega arith)
     loop-again
     returns)

@@ -5,14 +5,12 @@ use Rattle.judge.proofs.Inverse.{inverse-fits}
 use Rattle.judge.proofs.sums.inverse_of.Statement.{statement}
 use Rattle.judge.proofs.sums.inverse_of.Tie as tie
 
-div-result : tie.Need-div-result
-div-result c = search needs
-
 add-result : tie.Need-add-result
 add-result c = record { fits = inverse-fits (c .args .period) (omega arith) (omega arith) }
 
-returns : tie.Need-returns
-returns c = search needs
-
 pub inverse-of-spec : {M : Type 1} → statement M
-inverse-of-spec = tie.close (tie.spec div-result add-result returns)
+inverse-of-spec = tie.close
+    (tie.spec
+    (λ c. search needs)
+    add-result
+    (λ c. search needs))

@@ -24,23 +24,11 @@ mul-begun c = omega (arith, computed c)
 add-begun : tie.Need-add-begun
 add-begun c = omega (arith, computed c)
 
-sub-room : tie.Need-sub-room
-sub-room c = search needs
-
-cast-room : tie.Need-cast-room
-cast-room c = search needs
-
 mul-room : tie.Need-mul-room
 mul-room c = omega (arith, computed c)
 
 sub-room-2 : tie.Need-sub-room-2
 sub-room-2 c = omega (arith, computed c)
-
-least-requires : tie.Need-least-requires
-least-requires c κs = search needs
-
-least-requires-2 : tie.Need-least-requires-2
-least-requires-2 c κs = search needs
 
 returns : tie.Need-returns
 returns c =
@@ -58,10 +46,10 @@ part-of-spec =
     mul-whole
     mul-begun
     add-begun
-    sub-room
-    cast-room
+    (λ c. search needs)
+    (λ c. search needs)
     mul-room
     sub-room-2
-    least-requires
-    least-requires-2
+    (λ c κs. search needs)
+    (λ c κs. search needs)
     returns)

@@ -24,18 +24,6 @@ loop-holds : tie.Need-loop-holds Inv-loop μ-loop
 unfolding sumTo
 loop-holds c = (omega arith, c .pre .0 .1, c .pre .1 .1)
 
-mul-add-parts : tie.Need-mul-add-parts Inv-loop μ-loop
-mul-add-parts c = omega arith
-
-element-copy-out-add-parts : tie.Need-element-copy-out-add-parts Inv-loop μ-loop
-element-copy-out-add-parts c = omega arith
-
-mul-add-parts-2 : tie.Need-mul-add-parts-2 Inv-loop μ-loop
-mul-add-parts-2 c = omega arith
-
-element-copy-out-add-parts-2 : tie.Need-element-copy-out-add-parts-2 Inv-loop μ-loop
-element-copy-out-add-parts-2 c = omega arith
-
 -- A sum over at most 32 tasks.
 sum-small : (l : tie.At-loop Inv-loop μ-loop) (k : ℕ) → k < l .before .args .count → getD (l .loop .sums) k 0 ≤ 32 * 1_000_000
 sum-small l k h =
@@ -48,12 +36,6 @@ add-parts-requires c κs =
     let range = l .before .pre .1 .0 in
     let own = range (l .loop .i) (omega arith) in
     (omega arith, (omega arith, (λ k h. omega (arith, range k h), (λ k h. omega (arith, range k h), sum-small l))))
-
-add-i : tie.Need-add-i Inv-loop μ-loop
-add-i c = omega arith
-
-loop-less : tie.Need-loop-less Inv-loop μ-loop
-loop-less c = omega arith
 
 loop-again : tie.Need-loop-again Inv-loop μ-loop
 unfolding sumTo
@@ -77,12 +59,12 @@ window-sums-spec =
     Inv-loop
     μ-loop
     loop-holds
-    mul-add-parts
-    element-copy-out-add-parts
-    mul-add-parts-2
-    element-copy-out-add-parts-2
+    (λ c. omega arith)
+    (λ c. omega arith)
+    (λ c. omega arith)
+    (λ c. omega arith)
     add-parts-requires
-    add-i
-    loop-less
+    (λ c. omega arith)
+    (λ c. omega arith)
     loop-again
     returns)

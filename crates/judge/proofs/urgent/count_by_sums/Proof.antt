@@ -26,25 +26,10 @@ loop-holds : tie.Need-loop-holds Inv-loop μ-loop
 unfolding sumTo
 loop-holds c = (omega arith, refl, omega arith)
 
-mul-budget : tie.Need-mul-budget Inv-loop μ-loop
-mul-budget c = omega arith
-
-element-copy-out-budget : tie.Need-element-copy-out-budget Inv-loop μ-loop
-element-copy-out-budget c = omega arith
-
-mul-spare : tie.Need-mul-spare Inv-loop μ-loop
-mul-spare c = omega arith
-
-element-copy-out-spare : tie.Need-element-copy-out-spare Inv-loop μ-loop
-element-copy-out-spare c = omega arith
-
 sub-spare : tie.Need-sub-spare Inv-loop μ-loop
 sub-spare c =
     let l = c .before .before .before in
     l .before .pre .1 .0 (l .loop .k) (omega arith)
-
-own-part-requires : tie.Need-own-part-requires Inv-loop μ-loop
-own-part-requires c κs = search needs
 
 -- What the test computes with: the spare is small, and so is its product with the cores.
 small : (l : tie.In-loop Inv-loop μ-loop) →
@@ -66,21 +51,6 @@ mul-if1 c = omega (arith, small (c .before .before .before))
 
 add-if1 : tie.Need-add-if1 Inv-loop μ-loop
 add-if1 c = omega (arith, small (c .before .before .before), c .own-part .ensures)
-
-mul-if1-2 : tie.Need-mul-if1-2 Inv-loop μ-loop
-mul-if1-2 c = omega arith
-
-element-copy-out-if1 : tie.Need-element-copy-out-if1 Inv-loop μ-loop
-element-copy-out-if1 c = omega arith
-
-add-urgent : tie.Need-add-urgent Inv-loop μ-loop
-add-urgent c = omega arith
-
-add-k : tie.Need-add-k Inv-loop μ-loop
-add-k c = omega arith
-
-loop-less : tie.Need-loop-less Inv-loop μ-loop
-loop-less c = omega arith
 
 loop-again : tie.Need-loop-again Inv-loop μ-loop
 unfolding sumTo
@@ -110,19 +80,19 @@ count-by-sums-spec =
     Inv-loop
     μ-loop
     loop-holds
-    mul-budget
-    element-copy-out-budget
-    mul-spare
-    element-copy-out-spare
+    (λ c. omega arith)
+    (λ c. omega arith)
+    (λ c. omega arith)
+    (λ c. omega arith)
     sub-spare
-    own-part-requires
+    (λ c κs. search needs)
     cast-if1
     mul-if1
     add-if1
-    mul-if1-2
-    element-copy-out-if1
-    add-urgent
-    add-k
-    loop-less
+    (λ c. omega arith)
+    (λ c. omega arith)
+    (λ c. omega arith)
+    (λ c. omega arith)
+    (λ c. omega arith)
     loop-again
     returns)

@@ -7,9 +7,6 @@ use borrow.Author.Needs.{needs}
 use Rattle.judge.proofs.urgent.count_urgent.Statement.{statement}
 use Rattle.judge.proofs.urgent.count_urgent.Tie as tie
 
-numbers-of-requires : tie.Need-numbers-of-requires
-numbers-of-requires c κs = search needs
-
 lists : (c : tie.After-numbers-of) →
     let numbers = c .numbers-of .result in
     Lists (c .before .args .tasks) (c .before .args .count) (numbers .periods) (numbers .budgets) (numbers .deadlines)
@@ -41,4 +38,9 @@ returns c =
 
 pub count-urgent-spec : {M : Type 1} → statement M
 count-urgent-spec =
-    tie.close (tie.spec numbers-of-requires window-sums-requires count-by-sums-requires returns)
+    tie.close
+    (tie.spec
+    (λ c κs. search needs)
+    window-sums-requires
+    count-by-sums-requires
+    returns)

@@ -30,23 +30,11 @@ line-fits c =
     let t = d .before .before .before in
     omega (arith, length-take-le (d .before .find .result) (t .args .text .now) (le-of-lt (d .if1 .left)), t .good)
 
-find-requires : tie.Need-find-requires
-find-requires c κs = search needs
-
 returns : tie.Need-returns
 returns c = not-ended _ _ (c .before .find .ensures) (c .if1 .taken)
 
 slice-aggregate-line : tie.Need-slice-aggregate-line
 slice-aggregate-line c = sym (length-take-le _ _ (le-of-lt (c .before .if1 .left)))
-
-three-fields-requires : tie.Need-three-fields-requires
-three-fields-requires c κs = search needs
-
-enum-known-first : tie.Need-enum-known-first
-enum-known-first c = search needs
-
-enum-told : tie.Need-enum-told
-enum-told c = search needs
 
 returns-2 : tie.Need-returns-2
 returns-2 c =
@@ -78,18 +66,6 @@ sub-columns-in-2 c = omega (arith, fields (c .before .before .before) .within)
 part-columns-in-start-2 : tie.Need-part-columns-in-start-2
 part-columns-in-start-2 c = omega (arith, fields (c .before .before .before) .within)
 
-part-columns-in-end-2 : tie.Need-part-columns-in-end-2
-part-columns-in-end-2 c = search needs
-
-columns-in-requires : tie.Need-columns-in-requires
-columns-in-requires c κs = search needs
-
-complete-requires : tie.Need-complete-requires
-complete-requires c κs = search needs
-
-add-t24 : tie.Need-add-t24
-add-t24 c = search needs
-
 returns-3 : tie.Need-returns-3
 returns-3 c =
     let k = c .before .before in
@@ -108,12 +84,12 @@ pub names-line-spec : {M : Type 1} → statement M
 names-line-spec =
     tie.close
     (tie.spec
-    find-requires
+    (λ c κs. search needs)
     returns
     slice-aggregate-line
-    three-fields-requires
-    enum-known-first
-    enum-told
+    (λ c κs. search needs)
+    (λ c. search needs)
+    (λ c. search needs)
     returns-2
     slice-aggregate-columns-in
     add-columns-in
@@ -123,9 +99,9 @@ names-line-spec =
     add-columns-in-2
     sub-columns-in-2
     part-columns-in-start-2
-    part-columns-in-end-2
-    columns-in-requires
-    complete-requires
-    add-t24
+    (λ c. search needs)
+    (λ c κs. search needs)
+    (λ c κs. search needs)
+    (λ c. search needs)
     returns-3
     returns-4)

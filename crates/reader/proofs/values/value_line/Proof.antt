@@ -7,41 +7,17 @@ use borrow.Author.Needs.{needs}
 use Rattle.reader.proofs.values.value_line.Statement.{statement}
 use Rattle.reader.proofs.values.value_line.Tie as tie
 
-find-requires : tie.Need-find-requires
-find-requires c κs = search needs
-
 returns : tie.Need-returns
 returns c = not-ended _ _ _ (c .before .find .ensures) (c .if1 .taken)
 
 slice-aggregate-three-numbers : tie.Need-slice-aggregate-three-numbers
 slice-aggregate-three-numbers c = sym (length-take-le _ _ (le-of-lt (c .before .if1 .left)))
 
-three-numbers-requires : tie.Need-three-numbers-requires
-three-numbers-requires c κs = search needs
-
-enum-known-first : tie.Need-enum-known-first
-enum-known-first c = search needs
-
-enum-told : tie.Need-enum-told
-enum-told c = search needs
-
 returns-2 : tie.Need-returns-2
 returns-2 c =
     let t = c .before .before in
     let d = t .before .before in
     not-values _ _ _ (d .before .find .ensures) (d .if1 .left) (sym (t .three-numbers .ensures) ∙ c .enum-told .given .1)
-
-value-at-requires : tie.Need-value-at-requires
-value-at-requires c κs = search needs
-
-value-at-requires-2 : tie.Need-value-at-requires-2
-value-at-requires-2 c κs = search needs
-
-value-at-requires-3 : tie.Need-value-at-requires-3
-value-at-requires-3 c κs = search needs
-
-add-t10 : tie.Need-add-t10
-add-t10 c = search needs
 
 returns-3 : tie.Need-returns-3
 returns-3 c =
@@ -56,15 +32,15 @@ pub value-line-spec : {M : Type 1} → statement M
 value-line-spec =
     tie.close
     (tie.spec
-    find-requires
+    (λ c κs. search needs)
     returns
     slice-aggregate-three-numbers
-    three-numbers-requires
-    enum-known-first
-    enum-told
+    (λ c κs. search needs)
+    (λ c. search needs)
+    (λ c. search needs)
     returns-2
-    value-at-requires
-    value-at-requires-2
-    value-at-requires-3
-    add-t10
+    (λ c κs. search needs)
+    (λ c κs. search needs)
+    (λ c κs. search needs)
+    (λ c. search needs)
     returns-3)

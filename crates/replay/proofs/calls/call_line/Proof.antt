@@ -55,40 +55,13 @@ join-is c =
     let l = line (slot-tried (release-tried e)) in
     joins e ∙ rw (begins d) (ap joinOf (sym (c .three-numbers .ensures ∙ ap (threeNumbers maxDigits maxNumber) (from-drop l 5))))
 
-slice-aggregate-same : tie.Need-slice-aggregate-same
-slice-aggregate-same c = search needs
-
-same-requires : tie.Need-same-requires
-same-requires c κs = search needs
-
 returns : tie.Need-returns
 unfolding callOf
 returns c = rw (sym (c .before .same .ensures) ∙ c .if1 .taken)
 
-slice-aggregate-number-after : tie.Need-slice-aggregate-number-after
-slice-aggregate-number-after c = search needs
-
-number-after-requires : tie.Need-number-after-requires
-number-after-requires c κs = search needs
-
-enum-known-number : tie.Need-enum-known-number
-enum-known-number c = search needs
-
 returns-2 : tie.Need-returns-2
 unfolding callOf callOfTask
 returns-2 c = let n = c .before in rw (no-slot (n .before .before .before .before), sym (n .before .before .number-after .ensures) ∙ n .number .given .1)
-
-enum-told : tie.Need-enum-told
-enum-told c = search needs
-
-slice-aggregate-number-after-2 : tie.Need-slice-aggregate-number-after-2
-slice-aggregate-number-after-2 c = search needs
-
-number-after-requires-2 : tie.Need-number-after-requires-2
-number-after-requires-2 c κs = search needs
-
-enum-known-number-2 : tie.Need-enum-known-number-2
-enum-known-number-2 c = search needs
 
 returns-3 : tie.Need-returns-3
 unfolding callOf callOfTask
@@ -96,15 +69,6 @@ returns-3 c =
     let n = c .before in
     let e = n .before .before .before .before in
     rw (no-slot (slot-tried e), sym (e .before .before .number-after .ensures) ∙ e .enum-told .given .1, sym (n .before .before .number-after2 .ensures) ∙ n .number2 .given .1)
-
-enum-told-2 : tie.Need-enum-told-2
-enum-told-2 c = search needs
-
-slice-aggregate-begins-with : tie.Need-slice-aggregate-begins-with
-slice-aggregate-begins-with c = search needs
-
-begins-with-requires : tie.Need-begins-with-requires
-begins-with-requires c κs = search needs
 
 returns-4 : tie.Need-returns-4
 returns-4 c = sym (joins (c .before .before .before) ∙ rw (sym (c .before .begins-with .ensures) ∙ not-true _ (c .if2 .taken)))
@@ -114,18 +78,6 @@ sub-three-numbers c = join-fits c
 
 part-three-numbers-start : tie.Need-part-three-numbers-start
 part-three-numbers-start c = join-fits c
-
-part-three-numbers-end : tie.Need-part-three-numbers-end
-part-three-numbers-end c = search needs
-
-three-numbers-requires : tie.Need-three-numbers-requires
-three-numbers-requires c κs = search needs
-
-enum-known-period : tie.Need-enum-known-period
-enum-known-period c = search needs
-
-enum-told-3 : tie.Need-enum-told-3
-enum-told-3 c = search needs
 
 returns-5 : tie.Need-returns-5
 unfolding joinOf
@@ -139,27 +91,27 @@ pub call-line-spec : {M : Type 1} → statement M
 call-line-spec =
     tie.close
     (tie.spec
-    slice-aggregate-same
-    same-requires
+    (λ c. search needs)
+    (λ c κs. search needs)
     returns
-    slice-aggregate-number-after
-    number-after-requires
-    enum-known-number
+    (λ c. search needs)
+    (λ c κs. search needs)
+    (λ c. search needs)
     returns-2
-    enum-told
-    slice-aggregate-number-after-2
-    number-after-requires-2
-    enum-known-number-2
+    (λ c. search needs)
+    (λ c. search needs)
+    (λ c κs. search needs)
+    (λ c. search needs)
     returns-3
-    enum-told-2
-    slice-aggregate-begins-with
-    begins-with-requires
+    (λ c. search needs)
+    (λ c. search needs)
+    (λ c κs. search needs)
     returns-4
     sub-three-numbers
     part-three-numbers-start
-    part-three-numbers-end
-    three-numbers-requires
-    enum-known-period
-    enum-told-3
+    (λ c. search needs)
+    (λ c κs. search needs)
+    (λ c. search needs)
+    (λ c. search needs)
     returns-5
     returns-6)

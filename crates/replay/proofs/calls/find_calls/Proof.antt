@@ -19,18 +19,6 @@ abbrev μ-loop : tie.MeasureT-loop
 loop-holds : tie.Need-loop-holds Inv-loop μ-loop
 loop-holds c = (looking-none _, search needs)
 
-sub-rest : tie.Need-sub-rest Inv-loop μ-loop
-sub-rest c = search needs
-
-part-rest-start : tie.Need-part-rest-start Inv-loop μ-loop
-part-rest-start c = search needs
-
-part-rest-end : tie.Need-part-rest-end Inv-loop μ-loop
-part-rest-end c = search needs
-
-find-requires : tie.Need-find-requires Inv-loop μ-loop
-find-requires c κs = search needs
-
 returns : tie.Need-returns Inv-loop μ-loop
 returns c =
     let d = c .before .before .before .before in
@@ -53,22 +41,10 @@ add-next-2 c = omega (arith, fits c)
 slice-aggregate-same : tie.Need-slice-aggregate-same Inv-loop μ-loop
 slice-aggregate-same c = sym (length-take-le _ _ (le-of-lt (c .before .if1 .left)))
 
-slice-aggregate-same-2 : tie.Need-slice-aggregate-same-2 Inv-loop μ-loop
-slice-aggregate-same-2 c = search needs
-
-same-requires : tie.Need-same-requires Inv-loop μ-loop
-same-requires c κs = search needs
-
-add-t17 : tie.Need-add-t17 Inv-loop μ-loop
-add-t17 c = omega arith
-
 returns-2 : tie.Need-returns-2 Inv-loop μ-loop
 returns-2 c =
     let e = c .before .before .before .before in
     looked-here _ _ _ (at-line e .loop .inv .0) _ (e .before .find .ensures) (e .if1 .left) (sym (c .before .same .ensures) ∙ c .if2 .taken)
-
-add-line : tie.Need-add-line Inv-loop μ-loop
-add-line c = omega arith
 
 loop-less : tie.Need-loop-less Inv-loop μ-loop
 loop-less c = omega (arith, fits (c .before .before .before .before))
@@ -88,19 +64,19 @@ find-calls-spec =
     Inv-loop
     μ-loop
     loop-holds
-    sub-rest
-    part-rest-start
-    part-rest-end
-    find-requires
+    (λ c. search needs)
+    (λ c. search needs)
+    (λ c. search needs)
+    (λ c κs. search needs)
     returns
     add-next
     add-next-2
     slice-aggregate-same
-    slice-aggregate-same-2
-    same-requires
-    add-t17
+    (λ c. search needs)
+    (λ c κs. search needs)
+    (λ c. omega arith)
     returns-2
-    add-line
+    (λ c. omega arith)
     loop-less
     loop-again
     returns-3)

@@ -14,27 +14,6 @@ report-of c = c .before .before .before .before .args .report
 few : (c : tie.After-late) → length (reportLine (report-of c)) ≤ answerRoom
 few c = report-few (report-of c) (search needs) (search needs) (search needs) (search needs)
 
-mask-requires : tie.Need-mask-requires
-mask-requires c κs = search needs
-
-mask-requires-2 : tie.Need-mask-requires-2
-mask-requires-2 c κs = search needs
-
-mask-requires-3 : tie.Need-mask-requires-3
-mask-requires-3 c κs = search needs
-
-cast-t11 : tie.Need-cast-t11
-cast-t11 c = search needs
-
-slice-aggregate-put-numbers : tie.Need-slice-aggregate-put-numbers
-slice-aggregate-put-numbers c = search needs
-
-put-numbers-requires : tie.Need-put-numbers-requires
-put-numbers-requires c κs = search needs
-
-same-length : tie.Need-same-length
-same-length c = search needs
-
 returns : tie.Need-returns
 unfolding reportLine
 returns c =
@@ -49,11 +28,11 @@ pub put-report-spec : {M : Type 1} → statement M
 put-report-spec =
     tie.close
     (tie.spec
-    mask-requires
-    mask-requires-2
-    mask-requires-3
-    cast-t11
-    slice-aggregate-put-numbers
-    put-numbers-requires
-    same-length
+    (λ c κs. search needs)
+    (λ c κs. search needs)
+    (λ c κs. search needs)
+    (λ c. search needs)
+    (λ c. search needs)
+    (λ c κs. search needs)
+    (λ c. search needs)
     returns)

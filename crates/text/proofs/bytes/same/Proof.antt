@@ -8,11 +8,12 @@ use Rattle.text.proofs.bytes.same.Tie as tie
 returns : tie.Need-returns
 returns c = other-length _ _ (c .if1 .taken)
 
-begins-with-requires : tie.Need-begins-with-requires
-begins-with-requires c κs = search needs
-
 returns-2 : tie.Need-returns-2
 returns-2 c = c .begins-with .ensures ∙ same-begins _ _ (c .before .if1 .left)
 
 pub same-spec : {M : Type 1} → statement M
-same-spec = tie.close (tie.spec returns begins-with-requires returns-2)
+same-spec = tie.close
+    (tie.spec
+    returns
+    (λ c κs. search needs)
+    returns-2)

@@ -27,29 +27,11 @@ at-a c = c .before .before .before .before .before
 abbrev at-b : tie.After-c → tie.After-b
 at-b c = c .before .before .before .before .before
 
-three-fields-requires : tie.Need-three-fields-requires
-three-fields-requires c κs = search needs
-
-enum-known-first : tie.Need-enum-known-first
-enum-known-first c = search needs
-
-enum-told : tie.Need-enum-told
-enum-told c = search needs
-
 returns : tie.Need-returns
 returns c = not-three _ _ _ (no-fields _ (sym (c .before .before .three-fields .ensures) ∙ c .enum-told .given .1))
 
 slice-aggregate-number-of : tie.Need-slice-aggregate-number-of
 slice-aggregate-number-of c = let f = fields (c .before .before) in sym (length-take-le _ _ (omega (arith, f .order, f .within)))
-
-number-of-requires : tie.Need-number-of-requires
-number-of-requires c κs = search needs
-
-enum-known-a : tie.Need-enum-known-a
-enum-known-a c = search needs
-
-enum-told-2 : tie.Need-enum-told-2
-enum-told-2 c = search needs
 
 returns-2 : tie.Need-returns-2
 returns-2 c = no-first _ _ _ _ _ (fields (c .before .before .before .before .before)) (sym (c .before .before .number-of .ensures) ∙ c .enum-told2 .given .1)
@@ -66,15 +48,6 @@ part-number-of-start c = omega (arith, fields (at-fields (c .before)) .order)
 part-number-of-end : tie.Need-part-number-of-end
 part-number-of-end c = omega (arith, fields (at-fields (c .before)) .within)
 
-number-of-requires-2 : tie.Need-number-of-requires-2
-number-of-requires-2 c κs = search needs
-
-enum-known-b : tie.Need-enum-known-b
-enum-known-b c = search needs
-
-enum-told-3 : tie.Need-enum-told-3
-enum-told-3 c = search needs
-
 returns-3 : tie.Need-returns-3
 returns-3 c =
     no-second _ _ _ _ _ (fields (at-fields (c .before .before .before .before .before))) (sym (c .before .before .number-of2 .ensures) ∙ c .enum-told3 .given .1)
@@ -87,18 +60,6 @@ sub-number-of-2 c = omega (arith, fields (at-fields (at-a (c .before))) .within)
 
 part-number-of-start-2 : tie.Need-part-number-of-start-2
 part-number-of-start-2 c = omega (arith, fields (at-fields (at-a (c .before))) .within)
-
-part-number-of-end-2 : tie.Need-part-number-of-end-2
-part-number-of-end-2 c = search needs
-
-number-of-requires-3 : tie.Need-number-of-requires-3
-number-of-requires-3 c κs = search needs
-
-enum-known-c : tie.Need-enum-known-c
-enum-known-c c = search needs
-
-enum-told-4 : tie.Need-enum-told-4
-enum-told-4 c = search needs
 
 returns-4 : tie.Need-returns-4
 returns-4 c =
@@ -116,29 +77,29 @@ pub three-numbers-spec : {M : Type 1} → statement M
 three-numbers-spec =
     tie.close
     (tie.spec
-    three-fields-requires
-    enum-known-first
-    enum-told
+    (λ c κs. search needs)
+    (λ c. search needs)
+    (λ c. search needs)
     returns
     slice-aggregate-number-of
-    number-of-requires
-    enum-known-a
-    enum-told-2
+    (λ c κs. search needs)
+    (λ c. search needs)
+    (λ c. search needs)
     returns-2
     add-number-of
     sub-number-of
     part-number-of-start
     part-number-of-end
-    number-of-requires-2
-    enum-known-b
-    enum-told-3
+    (λ c κs. search needs)
+    (λ c. search needs)
+    (λ c. search needs)
     returns-3
     add-number-of-2
     sub-number-of-2
     part-number-of-start-2
-    part-number-of-end-2
-    number-of-requires-3
-    enum-known-c
-    enum-told-4
+    (λ c. search needs)
+    (λ c κs. search needs)
+    (λ c. search needs)
+    (λ c. search needs)
     returns-4
     returns-5)

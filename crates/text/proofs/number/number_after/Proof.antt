@@ -11,9 +11,6 @@ use borrow.Author.Needs.{needs}
 use Rattle.text.proofs.number.number_after.Statement.{statement}
 use Rattle.text.proofs.number.number_after.Tie as tie
 
-begins-with-requires : tie.Need-begins-with-requires
-begins-with-requires c κs = search needs
-
 returns : tie.Need-returns
 unfolding numberAfter
 returns c = rw (sym (c .before .begins-with .ensures) ∙ not-true _ (c .if1 .taken))
@@ -29,12 +26,6 @@ sub-number-of c = not-longer _ _ (begins c)
 part-number-of-start : tie.Need-part-number-of-start
 part-number-of-start c = not-longer _ _ (begins c)
 
-part-number-of-end : tie.Need-part-number-of-end
-part-number-of-end c = search needs
-
-number-of-requires : tie.Need-number-of-requires
-number-of-requires c κs = search needs
-
 returns-2 : tie.Need-returns-2
 unfolding numberAfter
 returns-2 c =
@@ -46,10 +37,10 @@ pub number-after-spec : {M : Type 1} → statement M
 number-after-spec =
     tie.close
     (tie.spec
-    begins-with-requires
+    (λ c κs. search needs)
     returns
     sub-number-of
     part-number-of-start
-    part-number-of-end
-    number-of-requires
+    (λ c. search needs)
+    (λ c κs. search needs)
     returns-2)

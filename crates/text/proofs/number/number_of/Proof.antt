@@ -25,20 +25,11 @@ returns c = empty _ _ _ (c .if1 .taken)
 returns-2 : tie.Need-returns-2 Inv-loop μ-loop
 returns-2 c = long _ _ _ (c .if2 .taken)
 
-shared-slice-read-if3 : tie.Need-shared-slice-read-if3 Inv-loop μ-loop
-shared-slice-read-if3 c = omega arith
-
 returns-3 : tie.Need-returns-3 Inv-loop μ-loop
 returns-3 c = leading _ _ _ (c .before .if3 .taken) (c .if4 .taken)
 
 loop-holds : tie.Need-loop-holds Inv-loop μ-loop
 loop-holds c = scanned-none _ _
-
-shared-slice-read-is-digit : tie.Need-shared-slice-read-is-digit Inv-loop μ-loop
-shared-slice-read-is-digit c = omega arith
-
-is-digit-requires : tie.Need-is-digit-requires Inv-loop μ-loop
-is-digit-requires c κs = search needs
 
 returns-4 : tie.Need-returns-4 Inv-loop μ-loop
 returns-4 c =
@@ -51,15 +42,6 @@ next-digit :
     → let l = c .before .before .before in
     isDigit (getD (l .before .before .before .before .before .before .before .args .field .now) (l .before .loop .i) 0) ≡ true
 next-digit c = sym (c .before .is-digit .ensures) ∙ not-false _ (c .if5 .left)
-
-cast-more : tie.Need-cast-more Inv-loop μ-loop
-cast-more c = search needs
-
-mul-more : tie.Need-mul-more Inv-loop μ-loop
-mul-more c = omega arith
-
-shared-slice-read-more : tie.Need-shared-slice-read-more Inv-loop μ-loop
-shared-slice-read-more c = omega arith
 
 sub-more : tie.Need-sub-more Inv-loop μ-loop
 sub-more c = digit _ (next-digit (c .before)) .low
@@ -74,15 +56,6 @@ returns-5 : tie.Need-returns-5 Inv-loop μ-loop
 returns-5 c =
     let l = c .before .before .before .before .before in
     too-large _ _ _ _ _ (l .before .loop .inv) (l .loop-test .taken) (c .if6 .taken)
-
-cast-number : tie.Need-cast-number Inv-loop μ-loop
-cast-number c = omega arith
-
-add-i : tie.Need-add-i Inv-loop μ-loop
-add-i c = omega arith
-
-loop-less : tie.Need-loop-less Inv-loop μ-loop
-loop-less c = omega arith
 
 loop-again : tie.Need-loop-again Inv-loop μ-loop
 loop-again c =
@@ -104,21 +77,21 @@ number-of-spec =
     μ-loop
     returns
     returns-2
-    shared-slice-read-if3
+    (λ c. omega arith)
     returns-3
     loop-holds
-    shared-slice-read-is-digit
-    is-digit-requires
+    (λ c. omega arith)
+    (λ c κs. search needs)
     returns-4
-    cast-more
-    mul-more
-    shared-slice-read-more
+    (λ c. search needs)
+    (λ c. omega arith)
+    (λ c. omega arith)
     sub-more
     cast-more-2
     add-more
     returns-5
-    cast-number
-    add-i
-    loop-less
+    (λ c. omega arith)
+    (λ c. omega arith)
+    (λ c. omega arith)
     loop-again
     returns-6)

@@ -50,20 +50,8 @@ returns-2 c =
     rw (whole l) at
     (put-over _ _ _ _ _ (l .before .loop .inv .1) (drop (l .before .loop .i) text) (omega (arith, length-drop (l .before .loop .i) text)) (c .if2 .taken))
 
-shared-slice-read-output : tie.Need-shared-slice-read-output Inv-loop μ-loop
-shared-slice-read-output c = omega arith
-
-slice-write-output : tie.Need-slice-write-output Inv-loop μ-loop
-slice-write-output c = omega arith
-
 add-at : tie.Need-add-at Inv-loop μ-loop
 add-at c = let l = c .before .before .before .before in omega (arith, kept l, l .before .good)
-
-add-i : tie.Need-add-i Inv-loop μ-loop
-add-i c = omega arith
-
-loop-less : tie.Need-loop-less Inv-loop μ-loop
-loop-less c = omega arith
 
 loop-again : tie.Need-loop-again Inv-loop μ-loop
 loop-again c =
@@ -91,11 +79,11 @@ put-spec =
     add-result
     same-length-2
     returns-2
-    shared-slice-read-output
-    slice-write-output
+    (λ c. omega arith)
+    (λ c. omega arith)
     add-at
-    add-i
-    loop-less
+    (λ c. omega arith)
+    (λ c. omega arith)
     loop-again
     same-length-3
     returns-3)

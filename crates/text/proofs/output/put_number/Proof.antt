@@ -11,21 +11,6 @@ use Rattle.text.proofs.output.put_number.Tie as tie
 text : (c : tie.After-decimal) → take (c .decimal .result) (c .decimal .last .1 .0) ≡ decimalText (c .before .before .before .args .number)
 text c = c .decimal .ensures .1 .1 ∙ same-text _ _ (search needs) (c .decimal .ensures .1 .0)
 
-decimal-requires : tie.Need-decimal-requires
-decimal-requires c κs = search needs
-
-array-share-prefix-digits : tie.Need-array-share-prefix-digits
-array-share-prefix-digits c = search needs
-
-slice-aggregate-put : tie.Need-slice-aggregate-put
-slice-aggregate-put c = search needs
-
-put-requires : tie.Need-put-requires
-put-requires c κs = search needs
-
-same-length : tie.Need-same-length
-same-length c = search needs
-
 returns : tie.Need-returns
 returns c =
     let p = c .before .before in
@@ -33,4 +18,11 @@ returns c =
 
 pub put-number-spec : {M : Type 1} → statement M
 put-number-spec =
-    tie.close (tie.spec decimal-requires array-share-prefix-digits slice-aggregate-put put-requires same-length returns)
+    tie.close
+    (tie.spec
+    (λ c κs. search needs)
+    (λ c. search needs)
+    (λ c. search needs)
+    (λ c κs. search needs)
+    (λ c. search needs)
+    returns)

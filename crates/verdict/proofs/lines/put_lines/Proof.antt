@@ -17,27 +17,12 @@ Inv-loop output₀ table last used₀ cores₀ output used cores = (cores ≤ la
 abbrev μ-loop : tie.MeasureT-loop
 μ-loop output₀ table last used₀ cores₀ output used cores = last - cores
 
-last-cores-requires : tie.Need-last-cores-requires Inv-loop μ-loop
-last-cores-requires c κs = search needs
-
-slice-aggregate-put : tie.Need-slice-aggregate-put Inv-loop μ-loop
-slice-aggregate-put c = search needs
-
-put-requires : tie.Need-put-requires Inv-loop μ-loop
-put-requires c κs = search needs
-
 loop-holds : tie.Need-loop-holds Inv-loop μ-loop
 unfolding verdictLines
 loop-holds c = (omega arith, put-none _ _)
 
 add-cores : tie.Need-add-cores Inv-loop μ-loop
 add-cores c = omega (arith, c .before .before .before .before .before .before .before .last-cores .ensures)
-
-put-line-requires : tie.Need-put-line-requires Inv-loop μ-loop
-put-line-requires c κs = search needs
-
-loop-less : tie.Need-loop-less Inv-loop μ-loop
-loop-less c = omega arith
 
 loop-again : tie.Need-loop-again Inv-loop μ-loop
 unfolding verdictLines
@@ -66,13 +51,13 @@ put-lines-spec =
     (tie.spec
     Inv-loop
     μ-loop
-    last-cores-requires
-    slice-aggregate-put
-    put-requires
+    (λ c κs. search needs)
+    (λ c. search needs)
+    (λ c κs. search needs)
     loop-holds
     add-cores
-    put-line-requires
-    loop-less
+    (λ c κs. search needs)
+    (λ c. omega arith)
     loop-again
     same-length
     returns)

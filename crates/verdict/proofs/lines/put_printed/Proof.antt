@@ -13,18 +13,6 @@ use borrow.Author.Needs.{needs}
 use Rattle.verdict.proofs.lines.put_printed.Statement.{statement}
 use Rattle.verdict.proofs.lines.put_printed.Tie as tie
 
-read-requires : tie.Need-read-requires
-read-requires c κs = search needs
-
-enum-known-outcome : tie.Need-enum-known-outcome
-enum-known-outcome c = search needs
-
-put-refused-requires : tie.Need-put-refused-requires
-put-refused-requires c κs = search needs
-
-same-length : tie.Need-same-length
-same-length c = search needs
-
 returns : tie.Need-returns
 unfolding printed printedAfter
 returns c =
@@ -34,15 +22,6 @@ returns c =
     let s = r .before .before .before in
     let e : printed (s .args .text .now) ≡ refusedLine (o .outcome .given .0 .0) = rw (← r .read .ensures, o .outcome .given .1) in
     rw e (put-all _ _ _ _ (p .put-refused .ensures) (omega (arith, printed-few (s .args .text .now), ap length e, s .pre)))
-
-enum-told : tie.Need-enum-told
-enum-told c = search needs
-
-put-lines-requires : tie.Need-put-lines-requires
-put-lines-requires c κs = search needs
-
-same-length-2 : tie.Need-same-length-2
-same-length-2 c = search needs
 
 returns-2 : tie.Need-returns-2
 unfolding printed printedAfter
@@ -60,12 +39,12 @@ pub put-printed-spec : {M : Type 1} → statement M
 put-printed-spec =
     tie.close
     (tie.spec
-    read-requires
-    enum-known-outcome
-    put-refused-requires
-    same-length
+    (λ c κs. search needs)
+    (λ c. search needs)
+    (λ c κs. search needs)
+    (λ c. search needs)
     returns
-    enum-told
-    put-lines-requires
-    same-length-2
+    (λ c. search needs)
+    (λ c κs. search needs)
+    (λ c. search needs)
     returns-2)

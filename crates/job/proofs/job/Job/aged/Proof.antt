@@ -4,12 +4,6 @@ use borrow.Author.Needs.{needs}
 use Rattle.job.proofs.job.Job.aged.Statement.{statement}
 use Rattle.job.proofs.job.Job.aged.Tie as tie
 
-less-one-requires : tie.Need-less-one-requires
-less-one-requires c κs = search needs
-
-less-one-requires-2 : tie.Need-less-one-requires-2
-less-one-requires-2 c κs = search needs
-
 returns : tie.Need-returns
 unfolding aged
 returns c = rw (c .before .if1 .taken, c .less-one2 .ensures, c .before .before .less-one .ensures)
@@ -19,4 +13,9 @@ unfolding aged
 returns-2 c = rw (c .if1 .left, c .before .less-one .ensures)
 
 pub aged-spec : {M : Type 1} → statement M
-aged-spec = tie.close (tie.spec less-one-requires less-one-requires-2 returns returns-2)
+aged-spec = tie.close
+    (tie.spec
+    (λ c κs. search needs)
+    (λ c κs. search needs)
+    returns
+    returns-2)

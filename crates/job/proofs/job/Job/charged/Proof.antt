@@ -6,9 +6,6 @@ use borrow.Author.Needs.{needs}
 use Rattle.job.proofs.job.Job.charged.Statement.{statement}
 use Rattle.job.proofs.job.Job.charged.Tie as tie
 
-less-one-requires : tie.Need-less-one-requires
-less-one-requires c κs = search needs
-
 returns : tie.Need-returns
 unfolding charged bit
 returns c = rw (c .before .if1 .taken, c .less-one .ensures)
@@ -18,4 +15,8 @@ unfolding charged bit
 returns-2 c = rw (c .if1 .left, sub-zero (c .before .args .self .budget))
 
 pub charged-spec : {M : Type 1} → statement M
-charged-spec = tie.close (tie.spec less-one-requires returns returns-2)
+charged-spec = tie.close
+    (tie.spec
+    (λ c κs. search needs)
+    returns
+    returns-2)

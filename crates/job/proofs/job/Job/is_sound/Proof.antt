@@ -9,15 +9,9 @@ returns : tie.Need-returns
 unfolding jobSound
 returns c = rw (lt-leb _ _ (c .if1 .taken))
 
-open-sound-requires : tie.Need-open-sound-requires
-open-sound-requires c κs = search needs
-
 returns-2 : tie.Need-returns-2
 unfolding jobSound openSound
 returns-2 c = rw (le-leb _ _ (c .before .before .if1 .left), c .before .if2 .taken) (c .open-sound .ensures)
-
-closed-sound-requires : tie.Need-closed-sound-requires
-closed-sound-requires c κs = search needs
 
 returns-3 : tie.Need-returns-3
 unfolding jobSound closedSound
@@ -25,4 +19,10 @@ returns-3 c = rw (le-leb _ _ (c .before .before .if1 .left), c .before .if2 .lef
 
 pub is-sound-spec : {M : Type 1} → statement M
 is-sound-spec =
-    tie.close (tie.spec returns open-sound-requires returns-2 closed-sound-requires returns-3)
+    tie.close
+    (tie.spec
+    returns
+    (λ c κs. search needs)
+    returns-2
+    (λ c κs. search needs)
+    returns-3)

@@ -10,23 +10,11 @@ returns : tie.Need-returns
 unfolding rank
 returns c = rw (not-true (c .before .before .args .self .«open») (c .if1 .taken))
 
-is-urgent-requires : tie.Need-is-urgent-requires
-is-urgent-requires c κs = search needs
-
-cast-result : tie.Need-cast-result
-cast-result c = search needs
-
 returns-2 : tie.Need-returns-2
 unfolding rank
 returns-2 c =
     let e = c .before .before .before in
     rw (sym (c .before .before .is-urgent .ensures) ∙ c .before .if2 .taken, not-false (e .before .before .args .self .«open») (e .if1 .left))
-
-cast-result-2 : tie.Need-cast-result-2
-cast-result-2 c = search needs
-
-add-result : tie.Need-add-result
-add-result c = search needs
 
 returns-3 : tie.Need-returns-3
 unfolding rank
@@ -37,4 +25,11 @@ returns-3 c =
 pub rank-spec : {M : Type 1} → statement M
 rank-spec =
     tie.close
-    (tie.spec returns is-urgent-requires cast-result returns-2 cast-result-2 add-result returns-3)
+    (tie.spec
+    returns
+    (λ c κs. search needs)
+    (λ c. search needs)
+    returns-2
+    (λ c. search needs)
+    (λ c. search needs)
+    returns-3)

@@ -4,21 +4,9 @@ use borrow.Author.Needs.{needs}
 use Rattle.job.proofs.job.Job.settled.Statement.{statement}
 use Rattle.job.proofs.job.Job.settled.Tie as tie
 
-is-finished-requires : tie.Need-is-finished-requires
-is-finished-requires c κs = search needs
-
-closed-requires : tie.Need-closed-requires
-closed-requires c κs = search needs
-
 returns : tie.Need-returns
 unfolding settled
 returns c = rw (← c .before .before .is-finished .ensures, c .before .if1 .taken) (c .closed .ensures)
-
-is-late-requires : tie.Need-is-late-requires
-is-late-requires c κs = search needs
-
-closed-requires-2 : tie.Need-closed-requires-2
-closed-requires-2 c κs = search needs
 
 returns-2 : tie.Need-returns-2
 unfolding settled
@@ -36,10 +24,10 @@ pub settled-spec : {M : Type 1} → statement M
 settled-spec =
     tie.close
     (tie.spec
-    is-finished-requires
-    closed-requires
+    (λ c κs. search needs)
+    (λ c κs. search needs)
     returns
-    is-late-requires
-    closed-requires-2
+    (λ c κs. search needs)
+    (λ c κs. search needs)
     returns-2
     returns-3)
