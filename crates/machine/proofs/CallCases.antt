@@ -1,20 +1,20 @@
 -- A call by what it came to: refused, with the machine as it was, or carried out, with what was found true first. Others cite `by-call`
 -- and the records of what an accepted call found.
 use Prim.Native.Nat.{ℕ, _-_, _≤_, _<_}
-use mathlib.Core.Path.{_≡_, refl}
-use mathlib.Core.Bool.{Bool, true, false, cond, not, _&&_}
+use mathlib.Core.Path.{_≡_}
+use mathlib.Core.Bool.{Bool, true, false, cond, not}
 use lib.Dec.{leb, ltb}
 use native.Mathlib.Omega.{arith}
-use borrow.Author.Tests.{leb-true, leb-false, ltb-false}
+use borrow.Author.Tests.{not-false, leb-true, leb-false, ltb-false}
 use Rattle.tasks.specs.declared.task.Task.{Task}
 use Rattle.tasks.specs.declared.outcome.Outcome.{Outcome}
 use Rattle.tasks.specs.declared.outcome.Outcome.the-variants.{Done, Refused}
 use Rattle.tasks.specs.Limits.{maxTasks}
-use Rattle.tasks.specs.Refusals.{unsoundMachine, taskOutOfRange, noSuchTask, releasedTooSoon, jobStillOpen, jobNotOpen, tableFull}
 use Rattle.tasks.specs.Task.{inRange}
 use Rattle.tasks.specs.Table.{withTask}
-use Rattle.laws.proofs.CaseSplits.{not-both}
-use Rattle.judge.specs.Judge.{Values, judged}
+use Rattle.laws.proofs.CaseSplits.{by-cond}
+use Rattle.laws.proofs.Booleans.{and-left, and-right}
+use Rattle.judge.specs.Judge.{judged}
 use Rattle.job.specs.Job.{closedJob, releasedJob}
 use Rattle.machine.specs.Machine.{taskAt, jobAt, inTable, withJob}
 use Rattle.machine.specs.Slot.{noReport, slotReport, afterSlot}
@@ -67,99 +67,53 @@ pub record JoinTaken (m : Machine) (t : Task) : Type 0 where
 
 pub number-fits : (m : Machine) (number : ℕ) → inTable m number ≡ true → NumberFits m number
 unfolding inTable
-number-fits m number h = go (leb 1 number) (leb number (m .table .count)) refl refl h
-  where
-    go : (a b : Bool) → leb 1 number ≡ a → leb number (m .table .count) ≡ b → (a && b) ≡ true → NumberFits m number
-    go true true p q h = record { some = leb-true _ _ p; fits = leb-true _ _ q }
-    go true false p q h = not-both false h refl
-    go false b p q h = not-both false h refl
+number-fits m number h = record { some = leb-true _ _ (and-left _ _ h); fits = leb-true _ _ (and-right (leb 1 number) _ h) }
 
 module _ (m : Machine) (P : Answer → Type 0) (on-refusal : (number place : ℕ) → P (refusal m number place)) where
+  -- past a test that refuses the call by this number
+  past : (t : Bool) (number : ℕ) {answer : Answer} → (t ≡ false → P answer) → P (cond t (refusal m number 0) answer)
+  past t number on = by-cond P t (λ e. on-refusal number 0) on
+
   by-release : (number : ℕ) → (ReleaseTaken m number → P (accepted (afterRelease m number) noReport)) → P (release m number)
   unfolding release refuse done afterRelease
   by-release number on-release =
-      go (sound m) (inTable m number) (ltb 0 (jobAt m i .gap)) (jobAt m i .«open») refl refl refl refl
-    where
-      i : ℕ
-      i = number - 1
-
-      go :
-          (a b d f : Bool) → sound m ≡ a → inTable m number ≡ b → ltb 0 (jobAt m i .gap) ≡ d → jobAt m i .«open» ≡ f
-          → P
-          (cond (not a) (refuse m unsoundMachine)
-          (cond (not b) (refuse m noSuchTask)
-          (cond d (refuse m releasedTooSoon)
-          (cond f (refuse m jobStillOpen) (done (withJob m i (releasedJob (taskAt m i))))))))
-      go false b d f p q r s = on-refusal _ _
-      go true false d f p q r s = on-refusal _ _
-      go true true true f p q r s = on-refusal _ _
-      go true true false true p q r s = on-refusal _ _
-      go true true false false p q r s =
-          on-release
-          (record {
-            is-sound = p;
-            is-task = number-fits m number q;
-            was-free = omega (arith, ltb-false 0 (jobAt m i .gap) r);
-            was-closed = s;
-          })
+      past _ _ λ ok.
+      past _ _ λ known.
+      past (ltb 0 (jobAt m (number - 1) .gap)) _ λ free.
+      past _ _ λ closed.
+      on-release
+      (record {
+        is-sound = not-false _ ok;
+        is-task = number-fits m number (not-false _ known);
+        was-free = omega (arith, ltb-false);
+        was-closed = closed;
+      })
 
   by-finish : (number : ℕ) → (FinishTaken m number → P (accepted (afterFinish m number) noReport)) → P (finish m number)
   unfolding finish refuse done afterFinish
-  by-finish number on-finish = go (sound m) (inTable m number) (jobAt m i .«open») refl refl refl
-    where
-      i : ℕ
-      i = number - 1
-
-      go :
-          (a b d : Bool) → sound m ≡ a → inTable m number ≡ b → jobAt m i .«open» ≡ d
-          → P
-          (cond (not a) (refuse m unsoundMachine)
-          (cond (not b) (refuse m noSuchTask)
-          (cond (not d) (refuse m jobNotOpen) (done (withJob m i (closedJob (jobAt m i)))))))
-      go false b d p q r = on-refusal _ _
-      go true false d p q r = on-refusal _ _
-      go true true false p q r = on-refusal _ _
-      go true true true p q r = on-finish (record { is-sound = p; is-task = number-fits m number q; was-open = r })
+  by-finish number on-finish =
+      past _ _ λ ok.
+      past _ _ λ known.
+      past _ _ λ opened.
+      on-finish (record { is-sound = not-false _ ok; is-task = number-fits m number (not-false _ known); was-open = not-false _ opened })
 
   by-slot : (sound m ≡ true → P (slotAnswer m)) → P (slot m)
   unfolding slot refuse
-  by-slot on-slot = go (sound m) refl
-    where
-      go : (a : Bool) → sound m ≡ a → P (cond (not a) (refuse m unsoundMachine) (slotAnswer m))
-      go false p = on-refusal _ _
-      go true p = on-slot p
+  by-slot on-slot = past _ _ λ ok. on-slot (not-false _ ok)
 
   -- a join, after the verdict on the longer table
-  by-verdict :
-      (t : Task) → (judged (withTask (m .table) t) (m .cores) .admits ≡ true → P (accepted (withJoined m t) noReport))
-      → (verdict : Outcome) (admits : Bool) → judged (withTask (m .table) t) (m .cores) .admits ≡ admits
-      → P (joinAfter verdict admits m t)
+  by-verdict : (t : Task) (verdict : Outcome) (admits : Bool) → (admits ≡ true → P (accepted (withJoined m t) noReport)) → P (joinAfter verdict admits m t)
   unfolding joinAfter refuse done
-  by-verdict t on-join Done true e = on-join e
-  by-verdict t on-join Done false e = on-refusal _ _
-  by-verdict t on-join (Refused number place) admits e = on-refusal _ _
+  by-verdict t Done admits on-join = by-cond P admits on-join (λ e. on-refusal _ _)
+  by-verdict t (Refused number place) admits on-join = on-refusal _ _
 
   by-join : (t : Task) → (JoinTaken m t → P (accepted (withJoined m t) noReport)) → P (join m t)
   unfolding join refuse
-  by-join t on-join = go (sound m) (inRange t) (leb maxTasks (m .table .count)) refl refl refl
-    where
-      verdict : Values
-      verdict = judged (withTask (m .table) t) (m .cores)
-
-      go :
-          (a b d : Bool) → sound m ≡ a → inRange t ≡ b → leb maxTasks (m .table .count) ≡ d
-          → P
-          (cond (not a) (refuse m unsoundMachine)
-          (cond (not b) (refuse m taskOutOfRange)
-          (cond d (refuse m tableFull) (joinAfter (verdict .outcome) (verdict .admits) m t))))
-      go false b d p q r = on-refusal _ _
-      go true false d p q r = on-refusal _ _
-      go true true true p q r = on-refusal _ _
-      go true true false p q r =
-          by-verdict t (λ e. on-join (record { is-sound = p; room = leb-false _ _ r; admits = e }))
-          (verdict .outcome)
-          (verdict .admits)
-          refl
+  by-join t on-join =
+      past _ _ λ ok.
+      past (not (inRange t)) _ λ in-range.
+      past _ _ λ room.
+      by-verdict t _ _ λ admits. on-join (record { is-sound = not-false _ ok; room = leb-false _ _ room; admits = admits })
 
 -- what holds of a refused call's answer and of each accepted call's holds of every call's
 pub by-call :
