@@ -1,6 +1,7 @@
 -- Laws of Booleans that mathlib lacks.
-use mathlib.Core.Path.{_≡_, refl, sym}
+use mathlib.Core.Path.{_≡_, refl, sym, _∙_}
 use mathlib.Core.Bool.{Bool, true, false, _&&_, _||_, not}
+use borrow.Author.Tests.{not-true, not-false}
 use Rattle.laws.proofs.CaseSplits.{not-both}
 
 pub and-left : (a b : Bool) → (a && b) ≡ true → a ≡ true
@@ -16,3 +17,10 @@ pub both-ways : (a b : Bool) → (a ≡ true → b ≡ true) → (b ≡ true →
 both-ways true b f g = sym (f refl)
 both-ways false true f g = g refl
 both-ways false false f g = refl
+
+-- what a test of a call's result says of what the call ensures: past `if !result` it was true, and inside it was false
+pub was-true : {result is : Bool} → result ≡ is → not result ≡ false → is ≡ true
+was-true e left = sym e ∙ not-false _ left
+
+pub was-false : {result is : Bool} → result ≡ is → not result ≡ true → is ≡ false
+was-false e taken = sym e ∙ not-true _ taken

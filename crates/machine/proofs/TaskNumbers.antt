@@ -10,10 +10,17 @@ use Rattle.machine.proofs.SoundLaws.{sound-passes}
 use Rattle.machine.proofs.CallCases.{number-fits}
 
 pub record Inside (m : Machine) (number : ℕ) : Type 0 where
+  pub is-sound : sound m ≡ true
+  pub in-table : inTable m number ≡ true
   pub some : 1 ≤ number
   pub index : number - 1 < 32
 
 pub inside-of : (m : Machine) (number : ℕ) → sound m ≡ true → inTable m number ≡ true → Inside m number
 inside-of m number ok h =
     let fits = number-fits m number h in
-    record { some = fits .some; index = omega (arith, fits .some, fits .fits, sound-passes m ok .count-fits) }
+    record {
+      is-sound = ok;
+      in-table = h;
+      some = fits .some;
+      index = omega (arith, fits .some, fits .fits, sound-passes m ok .count-fits);
+    }

@@ -4,7 +4,7 @@ use native.Mathlib.Nat.{sub-zero}
 use native.Mathlib.Omega.{arith}
 use mathlib.Core.Path.{_≡_, sym, _∙_}
 use borrow.Author.Needs.{needs}
-use borrow.Author.Tests.{not-true, not-false}
+use Rattle.laws.proofs.Booleans.{was-true, was-false}
 use Rattle.tasks.specs.Table.{zeroTask}
 use Rattle.tasks.specs.Check.{firstOutOfRange}
 use Rattle.tasks.proofs.check.first_out_of_range.Statement.{statement}
@@ -44,7 +44,7 @@ returns : tie.Need-returns Inv-loop μ-loop
 unfolding firstOutOfRange zeroTask
 returns c =
     let d = c .before in
-    sym (d .before .before .before .loop .inv .1 ∙ rw (more d, sym (d .in-range .ensures) ∙ not-true _ (c .if1 .taken)))
+    sym (d .before .before .before .loop .inv .1 ∙ rw (more d, was-false (d .in-range .ensures) (c .if1 .taken)))
 
 add-i : tie.Need-add-i Inv-loop μ-loop
 add-i c = omega arith
@@ -56,7 +56,7 @@ loop-again : tie.Need-loop-again Inv-loop μ-loop
 unfolding firstOutOfRange zeroTask
 loop-again c =
     let d = c .before in
-    (omega arith, d .before .before .before .loop .inv .1 ∙ rw (more d, sym (d .in-range .ensures) ∙ not-false _ (c .if1 .left)))
+    (omega arith, d .before .before .before .loop .inv .1 ∙ rw (more d, was-true (d .in-range .ensures) (c .if1 .left)))
 
 returns-2 : tie.Need-returns-2 Inv-loop μ-loop
 unfolding firstOutOfRange

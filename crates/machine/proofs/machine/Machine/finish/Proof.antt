@@ -1,21 +1,24 @@
 -- `Machine::finish` meets its contract: each refusal in its order, and then the job.
 use native.Mathlib.Omega.{arith}
-use mathlib.Core.Path.{sym, _∙_}
-use borrow.Author.Tests.{not-true, not-false}
+use mathlib.Core.Path.{_≡_}
+use mathlib.Core.Bool.{true}
+use Rattle.laws.proofs.Booleans.{was-true, was-false}
 use Rattle.job.specs.Job.{freshJob}
 use Rattle.machine.specs.Machine.{jobAt}
+use Rattle.machine.specs.Sound.{sound}
 use Rattle.machine.specs.Calls.{finish}
 use Rattle.machine.proofs.TaskNumbers.{Inside, inside-of}
 use borrow.Author.Needs.{needs}
 use Rattle.machine.proofs.machine.Machine.finish.Statement.{statement}
 use Rattle.machine.proofs.machine.Machine.finish.Tie as tie
 
--- the number is that of a task: its index is within the arrays
+-- past refusal 0 the machine is sound
+is-sound : (c : tie.Else1) → sound (c .before .before .args .t1) ≡ true
+is-sound c = was-true (c .before .is-sound .ensures) (c .if1 .left)
+
+-- past refusal 8 the number is that of a task
 inside : (c : tie.Else2) → Inside (c .before .before .before .before .args .t1) (c .before .before .before .before .args .number)
-inside c =
-    let t = c .before in
-    let e = t .before in
-    inside-of _ _ (sym (e .before .is-sound .ensures) ∙ not-false _ (e .if1 .left)) (sym (t .in-table .ensures) ∙ not-false _ (c .if2 .left))
+inside c = inside-of _ _ (is-sound (c .before .before)) (was-true (c .before .in-table .ensures) (c .if2 .left))
 
 is-sound-requires : tie.Need-is-sound-requires
 is-sound-requires c κs = search needs
@@ -25,7 +28,7 @@ refused-requires c κs = search needs
 
 returns : tie.Need-returns
 unfolding finish
-returns c = rw (sym (c .before .before .is-sound .ensures) ∙ not-true _ (c .before .if1 .taken)) (c .refused .ensures)
+returns c = rw (was-false (c .before .before .is-sound .ensures) (c .before .if1 .taken)) (c .refused .ensures)
 
 in-table-requires : tie.Need-in-table-requires
 in-table-requires c κs = search needs
@@ -37,7 +40,7 @@ returns-2 : tie.Need-returns-2
 unfolding finish
 returns-2 c =
     let t = c .before .before in
-    rw (sym (t .before .before .is-sound .ensures) ∙ not-false _ (t .before .if1 .left), sym (t .in-table .ensures) ∙ not-true _ (c .before .if2 .taken)) (c .refused2 .ensures)
+    rw (is-sound (t .before), was-false (t .in-table .ensures) (c .before .if2 .taken)) (c .refused2 .ensures)
 
 sub-i : tie.Need-sub-i
 sub-i c = omega (arith, inside c)
@@ -54,9 +57,8 @@ refused-requires-3 c κs = search needs
 returns-3 : tie.Need-returns-3
 unfolding finish jobAt freshJob
 returns-3 c =
-    let d = c .before .before .before .before in
-    let t = d .before in
-    rw (sym (t .before .before .is-sound .ensures) ∙ not-false _ (t .before .if1 .left), sym (t .in-table .ensures) ∙ not-false _ (d .if2 .left), c .before .if3 .taken) (c .refused3 .ensures)
+    let task = inside (c .before .before .before .before) in
+    rw (task .is-sound, task .in-table, c .before .if3 .taken) (c .refused3 .ensures)
 
 closed-requires : tie.Need-closed-requires
 closed-requires c κs = search needs
@@ -72,9 +74,8 @@ unfolding finish jobAt freshJob
 returns-4 c =
     let w = c .before in
     let e = w .before .before in
-    let d = e .before .before .before in
-    let t = d .before in
-    rw (sym (t .before .before .is-sound .ensures) ∙ not-false _ (t .before .if1 .left), sym (t .in-table .ensures) ∙ not-false _ (d .if2 .left), e .if3 .left, ← w .before .closed .ensures, ← w .with-job .ensures) (c .done .ensures)
+    let task = inside (e .before .before .before) in
+    rw (task .is-sound, task .in-table, e .if3 .left, ← w .before .closed .ensures, ← w .with-job .ensures) (c .done .ensures)
 
 pub finish-spec : {M : Type 1} → statement M
 finish-spec =

@@ -2,10 +2,10 @@
 use Prim.Native.Nat.{_-_, _≤_}
 use native.Mathlib.Numerals.{add-one}
 use native.Mathlib.Omega.{arith}
-use mathlib.Core.Path.{_≡_, refl, sym, _∙_}
+use mathlib.Core.Path.{_≡_, refl, sym}
 use mathlib.Core.Bool.{true}
 use borrow.Author.Needs.{needs}
-use borrow.Author.Tests.{not-true, not-false}
+use Rattle.laws.proofs.Booleans.{was-true, was-false}
 use Rattle.tasks.specs.Table.{zeroTask}
 use Rattle.job.specs.Job.{freshJob}
 use Rattle.machine.specs.Machine.{taskAt, jobAt}
@@ -44,7 +44,7 @@ unfolding taskAt jobAt zeroTask freshJob
 returns c =
     let d = c .before in
     let l = d .before .before .before .before in
-    sym (one-unsound (l .before .before .args .t1) _ (l .loop .i) (sym (d .is-sound .ensures) ∙ not-true _ (c .if1 .taken)) (d .before .before .before .loop-test .taken))
+    sym (one-unsound (l .before .before .args .t1) _ (l .loop .i) (was-false (d .is-sound .ensures) (c .if1 .taken)) (d .before .before .before .loop-test .taken))
 
 add-i : tie.Need-add-i Inv-loop μ-loop
 add-i c = omega arith
@@ -57,7 +57,7 @@ unfolding jobsSound taskAt jobAt zeroTask freshJob
 loop-again c =
     let d = c .before in
     let l = d .before .before .before .before in
-    (omega arith, rw (add-one (l .loop .i), l .loop .inv .1) (sym (d .is-sound .ensures) ∙ not-false _ (c .if1 .left)))
+    (omega arith, rw (add-one (l .loop .i), l .loop .inv .1) (was-true (d .is-sound .ensures) (c .if1 .left)))
 
 returns-2 : tie.Need-returns-2 Inv-loop μ-loop
 returns-2 c =
