@@ -42,17 +42,17 @@ module _ (m : Machine) (all-jobs : length (m .jobs) ≡ maxTasks) (number : ℕ)
         budget-some = rw job (fits .budget-some);
         budget-fits = rw job (omega arith);
         now-gap = rw job;
-        rest = λ k h ne. rest-same m i (releasedJob (taskAt m i)) k ne;
+        rest = λ k h ne. rest-same m i _ k ne;
       }
 
   pub finish-step : FinishTaken m number → Finished (tasksOf (m .table)) (number - 1) (jobsOf m) (jobsOf (afterFinish m number))
   unfolding jobsOf afterFinish closedJob
   finish-step taken =
       let i : ℕ = number - 1 in
-      let job = job-set m i (closedJob (jobAt m i)) (has-place (taken .is-sound) (taken .is-task)) in
+      let job : jobAt (afterFinish m number) i ≡ _ = job-set m i _ (has-place (taken .is-sound) (taken .is-task)) in
       record {
         was-open = taken .was-open;
         ended = record { closed = rw job; left-none = rw job; budget-none = rw job };
         same-gap = rw job;
-        rest = λ k h ne. rest-same m i (closedJob (jobAt m i)) k ne;
+        rest = λ k h ne. rest-same m i _ k ne;
       }
