@@ -1,5 +1,9 @@
 -- `check` meets its contract: each test that fails is its refusal, in the definition's order.
+use mathlib.Core.Path.{_≡_}
+use mathlib.Core.Bool.{cond, not}
 use borrow.Author.Tests.{lt-ltb, le-ltb, lt-leb, le-leb, eq-eqb, ne-eqb}
+use Rattle.tasks.specs.declared.outcome.Outcome.the-variants.{Done, Refused}
+use Rattle.tasks.specs.Refusals.{coresOutOfRange}
 use Rattle.tasks.specs.Check.{coresInRange, checked}
 use borrow.Author.Needs.{needs}
 use Rattle.tasks.proofs.check.check.Statement.{statement}
@@ -29,26 +33,28 @@ returns-3 c =
     let d = e .before .before in
     rw (le-ltb _ _ (d .before .if1 .left), ne-eqb _ _ (d .if2 .left), ← e .first-out-of-range .ensures, ne-eqb _ _ (c .if3 .taken))
 
-returns-4 : tie.Need-returns-4
-unfolding checked coresInRange
-returns-4 c =
-    let e = c .before .before in
+-- past the refusals 3, 6 and 5 the cores decide
+by-cores :
+    (c : tie.Else3)
+    → let a = c .before .before .before .before .before .args in
+    checked (a .table) (a .cores) ≡ cond (not (coresInRange (a .cores))) (Refused coresOutOfRange 0) Done
+unfolding checked
+by-cores c =
+    let e = c .before in
     let d = e .before .before in
-    rw (le-ltb _ _ (d .before .if1 .left), ne-eqb _ _ (d .if2 .left), ← e .first-out-of-range .ensures, eq-eqb _ _ (c .before .if3 .left), lt-leb 1 _ (c .if4 .taken))
+    rw (le-ltb _ _ (d .before .if1 .left), ne-eqb _ _ (d .if2 .left), ← e .first-out-of-range .ensures, eq-eqb _ _ (c .if3 .left))
+
+returns-4 : tie.Need-returns-4
+unfolding coresInRange
+returns-4 c = rw (by-cores (c .before), lt-leb 1 _ (c .if4 .taken))
 
 returns-5 : tie.Need-returns-5
-unfolding checked coresInRange
-returns-5 c =
-    let e = c .before .before .before in
-    let d = e .before .before in
-    rw (le-ltb _ _ (d .before .if1 .left), ne-eqb _ _ (d .if2 .left), ← e .first-out-of-range .ensures, eq-eqb _ _ (c .before .before .if3 .left), le-leb 1 _ (c .before .if4 .left), lt-leb _ 16 (c .if5 .taken))
+unfolding coresInRange
+returns-5 c = rw (by-cores (c .before .before), le-leb 1 _ (c .before .if4 .left), lt-leb _ 16 (c .if5 .taken))
 
 returns-6 : tie.Need-returns-6
-unfolding checked coresInRange
-returns-6 c =
-    let e = c .before .before .before in
-    let d = e .before .before in
-    rw (le-ltb _ _ (d .before .if1 .left), ne-eqb _ _ (d .if2 .left), ← e .first-out-of-range .ensures, eq-eqb _ _ (c .before .before .if3 .left), le-leb 1 _ (c .before .if4 .left), le-leb _ 16 (c .if5 .left))
+unfolding coresInRange
+returns-6 c = rw (by-cores (c .before .before), le-leb 1 _ (c .before .if4 .left), le-leb _ 16 (c .if5 .left))
 
 pub check-spec : {M : Type 1} → statement M
 check-spec =
