@@ -24,7 +24,8 @@ use Rattle.machine.proofs.JobSteps.{released-job}
 use Rattle.machine.proofs.Kept.{Kept, kept-release, kept-call, slot-on-time, freshMachine, started, kept-fresh}
 use Rattle.machine.proofs.ClosesLaws.{closes-by-slot}
 use Rattle.machine.proofs.InTimeLaws.{EntryInTime, quiet-report, quiet-in-time, in-time-none, in-time-more}
-use Rattle.machine.proofs.Closing.{Going, entryOf, closing}
+use Rattle.machine.proofs.Going.{Going}
+use Rattle.machine.proofs.Closing.{entryOf, closing}
 
 -- an accepted join's task is added to the table, and nothing else changes it
 table-after : (m : Machine) (call : Call) → step m call .machine .table ≡ cond (isDone (step m call .outcome)) (joinedBy call (m .table)) (m .table)

@@ -10,6 +10,7 @@ pub mod JobSteps
 pub mod JoinStep
 pub mod Kept
 pub mod ClosesLaws
+pub mod Going
 pub mod Closing
 pub mod InTimeLaws
 pub mod InTimeHolds

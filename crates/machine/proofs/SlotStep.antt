@@ -20,7 +20,6 @@ use Rattle.machine.specs.Pick.{runners}
 use Rattle.job.specs.Slot.{charged, aged, isFinished, isLate, settled}
 use Rattle.machine.specs.Slot.{passed, slotReport, afterSlot}
 use Rattle.machine.specs.Sound.{sound}
-use Rattle.job.specs.declared.job.Job.{Job}
 use Rattle.machine.specs.declared.machine.Machine.{Machine}
 use Rattle.job.proofs.SlotLaws.{settled-gap, settled-closed, settled-finished, settled-late, settled-open, fresh-stays}
 use Rattle.machine.proofs.State.{jobsOf}
