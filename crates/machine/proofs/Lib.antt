@@ -1,6 +1,8 @@
 pub mod State
 pub mod SoundLaws
+pub mod Waiting
 pub mod PickLaws
+pub mod RunnersLegal
 pub mod RanksLaws
 pub mod SlotStep
 pub mod CallCases

@@ -24,7 +24,7 @@ use Rattle.machine.specs.declared.machine.Machine.{Machine}
 use Rattle.job.proofs.SlotLaws.{settled-gap, settled-closed, settled-finished, settled-late, settled-open, fresh-stays}
 use Rattle.machine.proofs.State.{jobsOf}
 use Rattle.machine.proofs.SoundLaws.{sound-passes, sound-closed}
-use Rattle.machine.proofs.PickLaws.{runners-legal}
+use Rattle.machine.proofs.RunnersLegal.{runners-legal}
 
 module _ (m : Machine) where
   fresh-after : (i : ℕ) → jobAt m i ≡ freshJob → settled (passed m i) ≡ freshJob

@@ -7,10 +7,11 @@ use borrow.Author.Needs.{needs}
 use lib.ListN.{length, take}
 use lib.Seq.{length-take-le}
 use Rattle.tasks.specs.Limits.{maxTasks}
-use Rattle.machine.specs.Pick.{withPicked, pick}
+use Rattle.job.proofs.Next.{Found}
+use Rattle.machine.specs.Pick.{candidates, withPicked, pick}
 use Rattle.machine.specs.Ranks.{ranks}
 use Rattle.machine.proofs.SoundLaws.{sound-passes}
-use Rattle.machine.proofs.PickLaws.{length-pick, Runner, next-in}
+use Rattle.machine.proofs.PickLaws.{length-pick, next-in}
 use Rattle.machine.proofs.RanksLaws.{length-ranks, ranks-picked, ranked-runner}
 use Rattle.machine.proofs.machine.Machine.pick.Statement.{statement}
 use Rattle.machine.proofs.machine.Machine.pick.Tie as tie
@@ -32,7 +33,7 @@ has-all c =
     omega (arith, fits (c .before), ap length (c .loop .inv .2), length-ranks m (pick m (c .loop .found)))
 
 -- the next runner of the picks so far
-runner : (c : tie.In-loop Inv-loop μ-loop) → Runner (c .before .before .args .self) (pick (c .before .before .args .self) (c .before .loop .found))
+runner : (c : tie.In-loop Inv-loop μ-loop) → let m = c .before .before .args .self in Found (candidates m (pick m (c .before .loop .found)))
 runner c =
     let l = c .before in
     next-in (l .before .args .self) (fits (l .before)) (l .loop .found) (omega arith)
@@ -51,7 +52,8 @@ at-index : (c : tie.After-next-runner Inv-loop μ-loop) → c .next-runner .resu
 at-index c = omega (arith, is-next c)
 
 inside : (c : tie.After-next-runner Inv-loop μ-loop) → c .next-runner .result - 1 < c .before .before .before .before .args .self .table .count
-inside c = rw (at-index c) (runner (c .before .before) .inside)
+unfolding candidates
+inside c = rw (at-index c) (runner (c .before .before) .next .inside)
 
 loop-holds : tie.Need-loop-holds Inv-loop μ-loop
 unfolding pick
@@ -85,7 +87,7 @@ loop-less : tie.Need-loop-less Inv-loop μ-loop
 loop-less c = omega arith
 
 loop-again : tie.Need-loop-again Inv-loop μ-loop
-unfolding pick withPicked
+unfolding pick withPicked candidates
 loop-again c =
     let l = c .before .before .before in
     let m = l .before .args .self in
@@ -95,8 +97,8 @@ loop-again c =
       rw (add-one k, l .loop .inv .1, at-index c, next .number-is),
       rw (add-one k, l .loop .inv .2, at-index c, next .number-is)
           (ranks-picked m (pick m k) (next .index)
-          (omega (arith, next .inside, fits (l .before), length-pick m k))
-          (next .inside)
+          (omega (arith, next .next .inside, fits (l .before), length-pick m k))
+          (next .next .inside)
           (fits (l .before))),
     )
 
