@@ -1,10 +1,10 @@
--- The mask of a list from its end, as the code goes: `Masked`, with `masked-none` and `masked-more`.
+-- The mask of a list from its end, as the code goes: `Masked`, with `masked-none` and `masked-more`. How large a mask can be: `mask-below`.
 use Prim.Native.Nat.{ℕ, suc, _+_, _-_, _*_, _^_, _≤_, _<_}
 use native.Mathlib.Nat.{pow-suc}
 use native.Mathlib.Omega.{arith}
 use mathlib.Core.Path.{_≡_, refl, ap, _∙_}
 use mathlib.Core.Bool.{Bool, true, false}
-use mathlib.Core.List.{List, _∷_}
+use mathlib.Core.List.{List, [], _∷_}
 use mir.Val.{boolByte}
 use lib.ListN.{length, getD, drop, drop-of-length-le}
 use lib.Seq.{drop-cons}
@@ -54,3 +54,9 @@ module _ (named : List Bool) (sum i : ℕ) (m : Masked named sum i) (h : 0 < i) 
         sum-is = rw (d, ← m .sum-is, byte-bit (getD named (i - 1) false));
         small = room;
       }
+
+pub mask-below : (named : List Bool) → mask named < 2 ^ length named
+unfolding mask bit
+mask-below [] = omega arith
+mask-below (true ∷ named) = omega (arith, pow-suc 2 (length named), mask-below named)
+mask-below (false ∷ named) = omega (arith, pow-suc 2 (length named), mask-below named)
