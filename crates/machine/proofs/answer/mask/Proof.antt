@@ -1,14 +1,12 @@
 -- `mask` meets its contract. The invariant: the sum is the mask of the entries that were passed.
-use Prim.Native.Nat.{_+_, _-_, _*_, _^_, _≤_, _<_}
-use native.Mathlib.Nat.{pow-le-pow-right}
+use Prim.Native.Nat.{_+_, _-_, _*_, _^_, _<_}
 use native.Mathlib.Omega.{arith}
 use mathlib.Core.Path.{_≡_}
 use mathlib.Core.Bool.{false}
 use mir.Val.{boolByte}
 use borrow.Author.Needs.{needs}
-use lib.Dec.{lit<}
 use lib.ListN.{length, getD}
-use Rattle.machine.proofs.MaskTurn.{Masked, masked-none, masked-more, room}
+use Rattle.machine.proofs.MaskTurn.{Masked, masked-none, masked-small, masked-more}
 use Rattle.machine.proofs.answer.mask.Statement.{statement}
 use Rattle.machine.proofs.answer.mask.Tie as tie
 
@@ -22,10 +20,7 @@ abbrev μ-loop : tie.MeasureT-loop
 fits : (c : tie.In-loop Inv-loop μ-loop) →
     let l = c .before in
     boolByte (getD (l .before .args .t1) (l .loop .i - 1) false) + 2 * l .loop .sum < 2 ^ 64
-fits c =
-    let l = c .before in
-    let few : 32 - (l .loop .i - 1) ≤ 32 = omega arith in
-    omega (arith, room _ _ _ (l .loop .inv) (c .loop-test .taken), pow-le-pow-right {n = 2} (lit< tt) few)
+fits c = omega (arith, masked-small _ _ _ (masked-more _ _ _ (c .before .loop .inv) (c .loop-test .taken)))
 
 loop-holds : tie.Need-loop-holds Inv-loop μ-loop
 loop-holds c =
