@@ -81,7 +81,7 @@ module _ (m : Machine) (i l b : ℕ) (going : Going m i l b) where
     unfolding ClosesIn ClosesAfter acceptedFinish isDone isSlot isFinishOf tasksOf firstTasks afterFinish withJob
     after-finish number taken =
         by-equal i (number - 1)
-        (λ e bound. closes-finish (suc i) l b _ _ (left-some going) (eq-eqb number (suc i) (omega (arith, taken .is-task .some))))
+        (λ e bound. closes-finish (suc i) l b _ _ (left-some going) (eq-eqb number (suc i) (omega (arith, taken .task .some))))
         (λ ne.
         after-other _ _ refl (kept-finish m (going .kept) number taken) (going .inside)
         (finish-step m (going .kept .all-jobs) number taken .rest i (going .inside) ne))

@@ -59,7 +59,7 @@ module _ (m : Machine) (kept : Kept m) where
       let job = released-job m (kept .all-jobs) number taken in
       record {
         kept = kept-release m kept number taken;
-        inside = omega (arith, taken .is-task .some, taken .is-task .fits);
+        inside = taken .task .inside;
         is-open = rw job;
         left-is = rw job;
         budget-is = rw job;
@@ -69,7 +69,7 @@ module _ (m : Machine) (kept : Kept m) where
       let k = taskAt m (number - 1) in
       k .deadline ≤ slotCount (play (afterRelease m number) calls) → closedBySlot number k (play (afterRelease m number) calls) ≡ true
   release-closed calls number taken bound =
-      let from-one : suc (number - 1) ≡ number = omega (arith, taken .is-task .some) in
+      let from-one : suc (number - 1) ≡ number = omega (arith, taken .task .some) in
       let k = taskAt m (number - 1) in
       closes-by-slot number k (play (afterRelease m number) calls)
       ∙ rw from-one at

@@ -1,39 +1,33 @@
 -- An accepted release and an accepted finish, each of which sets one job, are the theory's steps: `release-step` and `finish-step`.
 -- The job that a release opens is `released-job`.
-use Prim.Native.Nat.{ℕ, _-_, _<_}
+use Prim.Native.Nat.{ℕ, _-_}
 use mathlib.Core.Path.{_≡_}
-use mathlib.Core.Bool.{true}
 use lib.ListN.{length}
 use native.Mathlib.Omega.{arith}
 use Rattle.tasks.specs.Limits.{maxTasks}
-use Rattle.tasks.proofs.Checked.{passes}
 use Rattle.edzl.proofs.WellFormed.{WellFormed}
 use Rattle.edzl.proofs.Release.{Released}
 use Rattle.edzl.proofs.Finish.{Finished}
 use Rattle.tasks.specs.TaskSet.{firstTasks, tasksOf}
 use Rattle.job.specs.Job.{closedJob, releasedJob}
 use Rattle.machine.specs.Machine.{taskAt, jobAt}
-use Rattle.machine.specs.Sound.{sound}
 use Rattle.machine.specs.declared.machine.Machine.{Machine}
 use Rattle.machine.proofs.State.{jobsOf}
 use Rattle.machine.proofs.JobPlaces.{job-set, rest-same}
-use Rattle.machine.proofs.SoundLaws.{sound-checks, sound-fits}
-use Rattle.machine.proofs.CallCases.{NumberFits, ReleaseTaken, FinishTaken, afterRelease, afterFinish}
+use Rattle.machine.proofs.SoundLaws.{sound-fits}
+use Rattle.machine.proofs.CallCases.{ReleaseTaken, FinishTaken, afterRelease, afterFinish}
 
 module _ (m : Machine) (all-jobs : length (m .jobs) ≡ maxTasks) (number : ℕ) where
-  has-place : sound m ≡ true → NumberFits m number → number - 1 < length (m .jobs)
-  has-place is-sound is-task = omega (arith, passes _ _ (sound-checks m is-sound) .count-fits)
-
   pub released-job : ReleaseTaken m number → jobAt (afterRelease m number) (number - 1) ≡ releasedJob (taskAt m (number - 1))
   unfolding afterRelease
-  released-job taken = job-set m (number - 1) (releasedJob (taskAt m (number - 1))) (has-place (taken .is-sound) (taken .is-task))
+  released-job taken = job-set m (number - 1) (releasedJob (taskAt m (number - 1))) (omega (arith, taken .task .index))
 
   pub release-step : ReleaseTaken m number → Released (tasksOf (m .table)) (number - 1) (jobsOf m) (jobsOf (afterRelease m number))
   unfolding jobsOf tasksOf firstTasks afterRelease releasedJob taskAt WellFormed
   release-step taken =
       let i : ℕ = number - 1 in
       let job = released-job taken in
-      let fits = sound-fits m (taken .is-sound) i (omega (arith, taken .is-task .some, taken .is-task .fits)) in
+      let fits = sound-fits m (taken .task .is-sound) i (taken .task .inside) in
       record {
         was-closed = taken .was-closed;
         was-free = taken .was-free;
@@ -49,7 +43,7 @@ module _ (m : Machine) (all-jobs : length (m .jobs) ≡ maxTasks) (number : ℕ)
   unfolding jobsOf afterFinish closedJob
   finish-step taken =
       let i : ℕ = number - 1 in
-      let job : jobAt (afterFinish m number) i ≡ _ = job-set m i _ (has-place (taken .is-sound) (taken .is-task)) in
+      let job : jobAt (afterFinish m number) i ≡ _ = job-set m i _ (omega (arith, taken .task .index)) in
       record {
         was-open = taken .was-open;
         ended = record { closed = rw job; left-none = rw job; budget-none = rw job };

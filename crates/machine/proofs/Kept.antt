@@ -31,7 +31,7 @@ use Rattle.tasks.proofs.TaskSetLaws.{well-checked}
 use Rattle.judge.proofs.Admits.{Admits, admits-means}
 use Rattle.laws.proofs.Replaced.{length-replaced}
 use Rattle.machine.proofs.SoundLaws.{sound-fits}
-use Rattle.machine.proofs.CallCases.{NumberFits, ReleaseTaken, FinishTaken, JoinTaken, afterRelease, afterFinish, by-call}
+use Rattle.machine.proofs.CallCases.{ReleaseTaken, FinishTaken, JoinTaken, afterRelease, afterFinish, by-call}
 use Rattle.machine.proofs.JobSteps.{release-step, finish-step}
 use Rattle.machine.proofs.JoinStep.{join-step}
 
@@ -75,27 +75,23 @@ module _ (t : Table) (cores : ℕ) (yes-admitted : judged t cores .admits ≡ tr
       }
 
 module _ (m : Machine) (kept : Kept m) where
-  in-table : (number : ℕ) → NumberFits m number → number - 1 < tasksOf (m .table) .count
-  unfolding tasksOf firstTasks
-  in-table number fits = omega arith
-
   -- a call that sets one job keeps the rest
   kept-job : (i : ℕ) (j : Job) → Safe (tasksOf (m .table)) (m .cores) (jobsOf (withJob m i j)) → Kept (withJob m i j)
   unfolding withJob
   kept-job i j safe = record { safe = safe; admits = kept .admits; all-jobs = rw length-set (kept .all-jobs) }
 
   pub kept-release : (number : ℕ) → ReleaseTaken m number → Kept (afterRelease m number)
-  unfolding afterRelease
+  unfolding tasksOf firstTasks afterRelease
   kept-release number taken =
       kept-job _ _
-      (safe-release _ (sound-fits m (taken .is-sound)) _ _ _ (kept .safe) _ (in-table number (taken .is-task))
+      (safe-release _ (sound-fits m (taken .task .is-sound)) _ _ _ (kept .safe) _ (taken .task .inside)
       (release-step m (kept .all-jobs) number taken))
 
   pub kept-finish : (number : ℕ) → FinishTaken m number → Kept (afterFinish m number)
-  unfolding afterFinish
+  unfolding tasksOf firstTasks afterFinish
   kept-finish number taken =
       kept-job _ _
-      (safe-finish _ (sound-fits m (taken .is-sound)) _ _ _ (kept .safe) _ (in-table number (taken .is-task))
+      (safe-finish _ (sound-fits m (taken .task .is-sound)) _ _ _ (kept .safe) _ (taken .task .inside)
       (finish-step m (kept .all-jobs) number taken))
 
   pub kept-join : (t : Task) → JoinTaken m t → Kept (withJoined m t)

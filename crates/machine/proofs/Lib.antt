@@ -5,8 +5,8 @@ pub mod PickLaws
 pub mod RunnersLegal
 pub mod RanksLaws
 pub mod SlotStep
-pub mod CallCases
 pub mod TaskNumbers
+pub mod CallCases
 pub mod JobPlaces
 pub mod JobSteps
 pub mod JoinStep
