@@ -62,21 +62,16 @@ unfolding sumTo replaced jobAt freshJob
 loop-again c =
     let r = c .before in
     let l = r .before .before .before in
-    let m = l .before .args .t1 in
-    ⊎-elim
-    (λ w. (
+    let i = l .loop .i in (
       omega arith,
-      rw (r .rank .ensures, l .loop .inv .1, add-one (l .loop .i), rank-unpicked m (l .loop .i)),
-      rw (add-one (l .loop .i)) (omega (arith, w .1, l .loop .inv, bit-true _ (w .0 .taken))),
-      omega (arith, w .1, l .loop .inv),
-    ))
-    (λ w. (
-      omega arith,
-      rw (r .rank .ensures, l .loop .inv .1, add-one (l .loop .i), rank-unpicked m (l .loop .i)),
-      rw (add-one (l .loop .i)) (omega (arith, w .1, l .loop .inv, bit-false _ (w .0 .left))),
-      omega (arith, w .1, l .loop .inv),
-    ))
-    (c .if1 .came)
+      rw (r .rank .ensures, l .loop .inv .1, add-one i, rank-unpicked (l .before .args .t1) i),
+      rw (add-one i)
+          (⊎-elim
+          (λ w. omega (arith, w .1, l .loop .inv, bit-true _ (w .0 .taken)))
+          (λ w. omega (arith, w .1, l .loop .inv, bit-false _ (w .0 .left)))
+          (c .if1 .came)),
+      ⊎-elim (λ w. omega (arith, w .1, l .loop .inv)) (λ w. omega (arith, w .1, l .loop .inv)) (c .if1 .came),
+    )
 
 returns : tie.Need-returns Inv-loop μ-loop
 unfolding openCount ranks
