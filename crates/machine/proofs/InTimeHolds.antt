@@ -14,7 +14,7 @@ use Rattle.machine.specs.Sound.{sound}
 use Rattle.job.specs.Job.{releasedJob}
 use Rattle.machine.specs.Calls.{withJoined, step}
 use Rattle.machine.specs.Play.{play}
-use Rattle.machine.specs.InTime.{slotCount, joinedBy, closedBySlot, InTime, Promise}
+use Rattle.machine.specs.InTime.{slotCount, joinedBy, closedBySlot, Promise}
 use Rattle.machine.specs.declared.machine.Machine.{Machine}
 use Rattle.machine.specs.declared.call.Call.{Call}
 use Rattle.machine.proofs.State.{jobsOf}
@@ -23,7 +23,7 @@ use Rattle.machine.proofs.CallCases.{ReleaseTaken, afterRelease, afterF
 use Rattle.machine.proofs.JobSteps.{released-job}
 use Rattle.machine.proofs.Kept.{Kept, kept-release, kept-call, slot-on-time, freshMachine, started, kept-fresh}
 use Rattle.machine.proofs.ClosesLaws.{closes-by-slot}
-use Rattle.machine.proofs.InTimeLaws.{EntryInTime, quiet-report, quiet-in-time, in-time-none, in-time-more}
+use Rattle.machine.proofs.InTimeLaws.{EntryInTime, EachInTime, quiet-report, quiet-in-time, each-none, each-more, each-in-time}
 use Rattle.machine.proofs.Going.{Going}
 use Rattle.machine.proofs.Closing.{entryOf, closing}
 
@@ -93,17 +93,17 @@ module _ (m : Machine) (kept : Kept m) where
       (λ is-sound. record { not-late = slot-in-time is-sound; closed = λ number e d. not-both false (cc) refl })
       (λ t taken. quiet-in-time _ _ _ refl (λ number e d. not-both false (cc) refl))
 
-in-time : (calls : List Call) (m : Machine) → Kept m → InTime (m .table) (play m calls)
+each-entry : (calls : List Call) (m : Machine) → Kept m → EachInTime (m .table) (play m calls)
 unfolding play
-in-time [] m kept = in-time-none (m .table)
-in-time (call ∷ calls) m kept =
+each-entry [] m kept = each-none (m .table)
+each-entry (call ∷ calls) m kept =
     let answer = step m call in
-    in-time-more (m .table) (answer .machine .table) (entryOf call answer) (play (answer .machine) calls)
+    each-more (m .table) (answer .machine .table) (entryOf call answer) (play (answer .machine) calls)
     (entry-in-time m kept calls call)
     (table-after m call)
-    (in-time calls (answer .machine) (kept-call m kept call))
+    (each-entry calls (answer .machine) (kept-call m kept call))
 
 pub promise : (t : Table) (cores : ℕ) → Promise t cores
 unfolding Promise freshMachine
 promise t cores yes-admitted calls =
-    rw (started t cores yes-admitted) (in-time calls (freshMachine t cores) (kept-fresh t cores yes-admitted))
+    rw (started t cores yes-admitted) (each-in-time _ _ (each-entry calls (freshMachine t cores) (kept-fresh t cores yes-admitted)))
