@@ -28,8 +28,7 @@ use Rattle.machine.specs.declared.answer.Answer.{Answer}
 use Rattle.machine.proofs.State.{jobsOf}
 use Rattle.machine.proofs.SlotStep.{finished-is}
 use Rattle.machine.proofs.CallCases.{ReleaseTaken, FinishTaken, JoinTaken, afterRelease, afterFinish, refusal, accepted, slotAnswer, by-call}
-use Rattle.machine.proofs.JobSteps.{release-step, finish-step}
-use Rattle.machine.proofs.JoinStep.{join-step}
+use Rattle.machine.proofs.JobSteps.{release-step, finish-step, join-step}
 use Rattle.machine.proofs.Kept.{Kept, kept-release, kept-finish, kept-join}
 use Rattle.machine.proofs.Going.{Going, left-some, budget-some, going-same, going-on}
 use Rattle.machine.proofs.ClosesLaws.{closes, closes-finish, closes-past, closes-idle, closes-ran, closes-last}

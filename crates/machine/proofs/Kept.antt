@@ -32,8 +32,7 @@ use Rattle.judge.proofs.Admits.{Admits, admits-means}
 use Rattle.laws.proofs.Replaced.{length-replaced}
 use Rattle.machine.proofs.SoundLaws.{sound-fits}
 use Rattle.machine.proofs.CallCases.{ReleaseTaken, FinishTaken, JoinTaken, afterRelease, afterFinish, by-call}
-use Rattle.machine.proofs.JobSteps.{release-step, finish-step}
-use Rattle.machine.proofs.JoinStep.{join-step}
+use Rattle.machine.proofs.JobSteps.{release-step, finish-step, join-step}
 
 pub record Kept (m : Machine) : Type 0 where
   pub safe : Safe (tasksOf (m .table)) (m .cores) (jobsOf m)

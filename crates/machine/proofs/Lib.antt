@@ -7,9 +7,7 @@ pub mod RanksLaws
 pub mod SlotStep
 pub mod TaskNumbers
 pub mod CallCases
-pub mod JobPlaces
 pub mod JobSteps
-pub mod JoinStep
 pub mod Kept
 pub mod ClosesLaws
 pub mod Going
