@@ -6,7 +6,7 @@ use mathlib.Core.List.{List, [], _∷_}
 use lib.ListN.{getD}
 use native.Mathlib.Omega.{arith}
 use Rattle.tasks.specs.declared.table.Table.{Table}
-use Rattle.laws.proofs.CaseSplits.{by-test, not-both}
+use Rattle.laws.proofs.CaseSplits.{by-test, clash}
 use Rattle.machine.specs.Machine.{taskAt, withJob}
 use Rattle.machine.specs.Slot.{slotReport, afterSlot}
 use Rattle.tasks.specs.Outcome.{isDone}
@@ -81,7 +81,7 @@ module _ (m : Machine) (kept : Kept m) where
   unfolding isDone taskAt
   entry-in-time calls =
       by-call m (λ call answer. EntryInTime (m .table) (entryOf call answer) (play (answer .machine) calls))
-      (λ call number place. quiet-in-time _ _ _ refl (λ n e d. not-both false d refl))
+      (λ call number place. quiet-in-time _ _ _ refl (λ n e d. clash cc))
       (λ n taken.
       record {
         not-late = quiet-report;
@@ -89,9 +89,9 @@ module _ (m : Machine) (kept : Kept m) where
             let same : n ≡ number = cc in
             rw (← same) (release-closed calls n taken);
       })
-      (λ n taken. quiet-in-time _ _ _ refl (λ number e d. not-both false (cc) refl))
-      (λ is-sound. record { not-late = slot-in-time is-sound; closed = λ number e d. not-both false (cc) refl })
-      (λ t taken. quiet-in-time _ _ _ refl (λ number e d. not-both false (cc) refl))
+      (λ n taken. quiet-in-time _ _ _ refl (λ number e d. clash cc))
+      (λ is-sound. record { not-late = slot-in-time is-sound; closed = λ number e d. clash cc })
+      (λ t taken. quiet-in-time _ _ _ refl (λ number e d. clash cc))
 
 each-entry : (calls : List Call) (m : Machine) → Kept m → EachInTime (m .table) (play m calls)
 unfolding play
