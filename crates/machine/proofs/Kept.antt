@@ -3,13 +3,11 @@
 use Prim.Native.Nat.{ℕ, _-_, _≤_, _<_}
 use mathlib.Core.Path.{_≡_}
 use mathlib.Core.Bool.{true, false}
-use lib.ListN.{length, getD, replicate, length-set, length-replicate, getD-replicate}
-use native.Mathlib.Omega.{arith}
+use lib.ListN.{length, getD, replicate, length-set, length-replicate}
 use Rattle.tasks.specs.declared.task.Task.{Task}
 use Rattle.tasks.specs.declared.table.Table.{Table}
 use Rattle.tasks.specs.Limits.{maxTasks}
 use Rattle.tasks.specs.Table.{withTask}
-use Rattle.tasks.proofs.Checked.{passes}
 use Rattle.edzl.specs.Sums.{bit}
 use Rattle.edzl.specs.Window.{admitted}
 use Rattle.edzl.proofs.Invariant.{Fresh}
@@ -29,7 +27,7 @@ use Rattle.machine.proofs.State.{jobsOf}
 use Rattle.machine.proofs.SlotStep.{slot-step}
 use Rattle.tasks.proofs.TaskSetLaws.{well-checked}
 use Rattle.judge.proofs.Admits.{Admits, admits-means}
-use Rattle.laws.proofs.Replaced.{length-replaced}
+use Rattle.laws.proofs.Replaced.{replicate-entry, length-replaced}
 use Rattle.machine.proofs.SoundLaws.{sound-fits}
 use Rattle.machine.proofs.CallCases.{ReleaseTaken, FinishTaken, JoinTaken, afterRelease, afterFinish, by-call}
 use Rattle.machine.proofs.JobSteps.{release-step, finish-step, join-step}
@@ -56,19 +54,17 @@ module _ (t : Table) (cores : ℕ) (yes-admitted : judged t cores .admits ≡ tr
   unfolding tasksOf firstTasks jobsOf jobAt freshMachine freshJob
   fresh-jobs =
       record {
-        none = λ i h. record { closed = rw (job i h); left-none = rw (job i h); budget-none = rw (job i h) };
-        gap-none = λ i h. rw (job i h);
+        none = λ i h.
+            let job = replicate-entry maxTasks i freshJob in
+            record { closed = rw job; left-none = rw job; budget-none = rw job };
+        gap-none = λ i h. rw (replicate-entry maxTasks i freshJob);
       }
-    where
-      job : (i : ℕ) → i < t .count → getD (replicate maxTasks freshJob) i freshJob ≡ freshJob
-      job i h =
-          getD-replicate maxTasks i freshJob freshJob (omega (arith, passes t cores (means .checks) .count-fits))
 
   pub kept-fresh : Kept (freshMachine t cores)
   unfolding freshMachine
   kept-fresh =
       record {
-        safe = safe-fresh (tasksOf t) cores (jobsOf (freshMachine t cores)) fresh-jobs;
+        safe = safe-fresh _ _ _ fresh-jobs;
         admits = means .admits;
         all-jobs = length-replicate maxTasks freshJob;
       }
