@@ -27,23 +27,14 @@ loop-holds c =
     let e : length (c .args .t1) ≡ 32 = search needs in
     masked-none _ e
 
-sub-i : tie.Need-sub-i Inv-loop μ-loop
-sub-i c = omega arith
-
 array-read-sum : tie.Need-array-read-sum Inv-loop μ-loop
 array-read-sum c = omega (arith, c .before .loop .inv .within)
-
-cast-sum : tie.Need-cast-sum Inv-loop μ-loop
-cast-sum c = search needs
 
 mul-sum : tie.Need-mul-sum Inv-loop μ-loop
 mul-sum c = omega (arith, fits c)
 
 add-sum : tie.Need-add-sum Inv-loop μ-loop
 add-sum c = omega (arith, fits c)
-
-loop-less : tie.Need-loop-less Inv-loop μ-loop
-loop-less c = omega arith
 
 loop-again : tie.Need-loop-again Inv-loop μ-loop
 loop-again c = masked-more _ _ _ (c .before .loop .inv) (c .loop-test .taken)
@@ -60,11 +51,11 @@ mask-spec =
     Inv-loop
     μ-loop
     loop-holds
-    sub-i
+    (λ c. omega arith)
     array-read-sum
-    cast-sum
+    (λ c. search needs)
     mul-sum
     add-sum
-    loop-less
+    (λ c. omega arith)
     loop-again
     returns)

@@ -9,12 +9,6 @@ use borrow.Author.Needs.{needs}
 use Rattle.tasks.proofs.check.check.Statement.{statement}
 use Rattle.tasks.proofs.check.check.Tie as tie
 
-cast-t7 : tie.Need-cast-t7
-cast-t7 c = search needs
-
-add-t8 : tie.Need-add-t8
-add-t8 c = search needs
-
 returns : tie.Need-returns
 unfolding checked
 returns c = rw (lt-ltb _ _ (c .if1 .taken))
@@ -22,9 +16,6 @@ returns c = rw (lt-ltb _ _ (c .if1 .taken))
 returns-2 : tie.Need-returns-2
 unfolding checked
 returns-2 c = rw (le-ltb _ _ (c .before .if1 .left), eq-eqb _ _ (c .if2 .taken))
-
-first-out-of-range-requires : tie.Need-first-out-of-range-requires
-first-out-of-range-requires c κs = search needs
 
 returns-3 : tie.Need-returns-3
 unfolding checked
@@ -60,11 +51,11 @@ pub check-spec : {M : Type 1} → statement M
 check-spec =
     tie.close
     (tie.spec
-    cast-t7
-    add-t8
+    (λ c. search needs)
+    (λ c. search needs)
     returns
     returns-2
-    first-out-of-range-requires
+    (λ c κs. search needs)
     returns-3
     returns-4
     returns-5

@@ -20,21 +20,9 @@ is-sound c = was-true (c .before .is-sound .ensures) (c .if1 .left)
 known : (c : tie.Else2) → KnownTask (c .before .before .before .before .args .t1) (c .before .before .before .before .args .number)
 known c = known-task _ _ (is-sound (c .before .before)) (was-true (c .before .in-table .ensures) (c .if2 .left))
 
-is-sound-requires : tie.Need-is-sound-requires
-is-sound-requires c κs = search needs
-
-refused-requires : tie.Need-refused-requires
-refused-requires c κs = search needs
-
 returns : tie.Need-returns
 unfolding finish
 returns c = rw (was-false (c .before .before .is-sound .ensures) (c .before .if1 .taken)) (c .refused .ensures)
-
-in-table-requires : tie.Need-in-table-requires
-in-table-requires c κs = search needs
-
-refused-requires-2 : tie.Need-refused-requires-2
-refused-requires-2 c κs = search needs
 
 returns-2 : tie.Need-returns-2
 unfolding finish
@@ -45,14 +33,8 @@ returns-2 c =
 sub-i : tie.Need-sub-i
 sub-i c = omega (arith, known c)
 
-mul-job : tie.Need-mul-job
-mul-job c = search needs
-
 element-copy-out-job : tie.Need-element-copy-out-job
 element-copy-out-job c = omega (arith, known c)
-
-refused-requires-3 : tie.Need-refused-requires-3
-refused-requires-3 c κs = search needs
 
 returns-3 : tie.Need-returns-3
 unfolding finish jobAt freshJob
@@ -60,14 +42,8 @@ returns-3 c =
     let task = known (c .before .before .before .before) in
     rw (task .is-sound, task .in-table, c .before .if3 .taken) (c .refused3 .ensures)
 
-closed-requires : tie.Need-closed-requires
-closed-requires c κs = search needs
-
 with-job-requires : tie.Need-with-job-requires
 with-job-requires c κs = omega (arith, known (c .before .before .before .before))
-
-done-requires : tie.Need-done-requires
-done-requires c κs = search needs
 
 returns-4 : tie.Need-returns-4
 unfolding finish jobAt freshJob
@@ -81,18 +57,18 @@ pub finish-spec : {M : Type 1} → statement M
 finish-spec =
     tie.close
     (tie.spec
-    is-sound-requires
-    refused-requires
+    (λ c κs. search needs)
+    (λ c κs. search needs)
     returns
-    in-table-requires
-    refused-requires-2
+    (λ c κs. search needs)
+    (λ c κs. search needs)
     returns-2
     sub-i
-    mul-job
+    (λ c. search needs)
     element-copy-out-job
-    refused-requires-3
+    (λ c κs. search needs)
     returns-3
-    closed-requires
+    (λ c κs. search needs)
     with-job-requires
-    done-requires
+    (λ c κs. search needs)
     returns-4)

@@ -34,21 +34,9 @@ by-verdict c =
     let longer = ap (λ (m : Machine). judged (m .table) cores) (w .with-joined .ensures) in
     rw (is-sound (d .before .before), in-range d, lt-leb _ _ (e .if3 .left), sym (c .judge .ensures ∙ longer))
 
-is-sound-requires : tie.Need-is-sound-requires
-is-sound-requires c κs = search needs
-
-refused-requires : tie.Need-refused-requires
-refused-requires c κs = search needs
-
 returns : tie.Need-returns
 unfolding join
 returns c = rw (was-false (c .before .before .is-sound .ensures) (c .before .if1 .taken)) (c .refused .ensures)
-
-in-range-requires : tie.Need-in-range-requires
-in-range-requires c κs = search needs
-
-refused-requires-2 : tie.Need-refused-requires-2
-refused-requires-2 c κs = search needs
 
 returns-2 : tie.Need-returns-2
 unfolding join
@@ -56,32 +44,11 @@ returns-2 c =
     let t = c .before .before in
     rw (is-sound (t .before), was-false (t .in-range .ensures) (c .before .if2 .taken)) (c .refused2 .ensures)
 
-refused-requires-3 : tie.Need-refused-requires-3
-refused-requires-3 c κs = search needs
-
 returns-3 : tie.Need-returns-3
 unfolding join
 returns-3 c =
     let d = c .before .before .before in
     rw (is-sound (d .before .before), in-range d, le-leb _ _ (c .before .if3 .taken)) (c .refused3 .ensures)
-
-with-joined-requires : tie.Need-with-joined-requires
-with-joined-requires c κs = search needs
-
-judge-requires : tie.Need-judge-requires
-judge-requires c κs = search needs
-
-enum-known-verdict : tie.Need-enum-known-verdict
-enum-known-verdict c = search needs
-
-enum-told : tie.Need-enum-told
-enum-told c = search needs
-
-outcome-requires : tie.Need-outcome-requires
-outcome-requires c κs = search needs
-
-none-requires : tie.Need-none-requires
-none-requires c κs = search needs
 
 returns-4 : tie.Need-returns-4
 unfolding joinAfter valuesOf refusedValues
@@ -90,17 +57,11 @@ returns-4 c =
     let v = o .before in
     rw (by-verdict (v .before .before), c .none .ensures, o .outcome .ensures, v .enum-told .given .1)
 
-refused-requires-4 : tie.Need-refused-requires-4
-refused-requires-4 c κs = search needs
-
 returns-5 : tie.Need-returns-5
 unfolding joinAfter valuesOf
 returns-5 c =
     let v = c .before .before .before in
     rw (by-verdict (v .before .before), v .verdict .given .1, not-true (v .verdict .given .0 .1 .0) (c .before .if4 .taken)) (c .refused4 .ensures)
-
-done-requires : tie.Need-done-requires
-done-requires c κs = search needs
 
 returns-6 : tie.Need-returns-6
 unfolding joinAfter valuesOf
@@ -113,22 +74,22 @@ pub join-spec : {M : Type 1} → statement M
 join-spec =
     tie.close
     (tie.spec
-    is-sound-requires
-    refused-requires
+    (λ c κs. search needs)
+    (λ c κs. search needs)
     returns
-    in-range-requires
-    refused-requires-2
+    (λ c κs. search needs)
+    (λ c κs. search needs)
     returns-2
-    refused-requires-3
+    (λ c κs. search needs)
     returns-3
-    with-joined-requires
-    judge-requires
-    enum-known-verdict
-    enum-told
-    outcome-requires
-    none-requires
+    (λ c κs. search needs)
+    (λ c κs. search needs)
+    (λ c. search needs)
+    (λ c. search needs)
+    (λ c κs. search needs)
+    (λ c κs. search needs)
     returns-4
-    refused-requires-4
+    (λ c κs. search needs)
     returns-5
-    done-requires
+    (λ c κs. search needs)
     returns-6)

@@ -65,9 +65,6 @@ array-share-prefix-waiting c = has-all (c .before)
 slice-aggregate-next-runner : tie.Need-slice-aggregate-next-runner Inv-loop μ-loop
 slice-aggregate-next-runner c = sym (length-take-le _ _ (has-all (c .before .before)))
 
-next-runner-requires : tie.Need-next-runner-requires Inv-loop μ-loop
-next-runner-requires c κs = search needs
-
 sub-next : tie.Need-sub-next Inv-loop μ-loop
 sub-next c = omega (arith, is-next c)
 
@@ -79,12 +76,6 @@ mul-waiting c = omega (arith, inside c, fits (c .before .before .before .before)
 
 array-write-waiting : tie.Need-array-write-waiting Inv-loop μ-loop
 array-write-waiting c = omega (arith, inside c, fits (c .before .before .before .before))
-
-add-found : tie.Need-add-found Inv-loop μ-loop
-add-found c = omega arith
-
-loop-less : tie.Need-loop-less Inv-loop μ-loop
-loop-less c = omega arith
 
 loop-again : tie.Need-loop-again Inv-loop μ-loop
 unfolding pick withPicked candidates
@@ -117,12 +108,12 @@ pick-spec =
     loop-holds
     array-share-prefix-waiting
     slice-aggregate-next-runner
-    next-runner-requires
+    (λ c κs. search needs)
     sub-next
     array-write-picked
     mul-waiting
     array-write-waiting
-    add-found
-    loop-less
+    (λ c. omega arith)
+    (λ c. omega arith)
     loop-again
     returns)

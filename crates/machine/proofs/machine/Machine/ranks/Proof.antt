@@ -33,30 +33,6 @@ loop-holds : tie.Need-loop-holds Inv-loop μ-loop
 unfolding sumTo replaced
 loop-holds c = (omega arith, refl, refl, omega arith)
 
-mul-job : tie.Need-mul-job Inv-loop μ-loop
-mul-job c = omega arith
-
-element-copy-out-job : tie.Need-element-copy-out-job Inv-loop μ-loop
-element-copy-out-job c = omega arith
-
-rank-requires : tie.Need-rank-requires Inv-loop μ-loop
-rank-requires c κs = search needs
-
-mul-ranks : tie.Need-mul-ranks Inv-loop μ-loop
-mul-ranks c = omega arith
-
-array-write-ranks : tie.Need-array-write-ranks Inv-loop μ-loop
-array-write-ranks c = omega arith
-
-add-found : tie.Need-add-found Inv-loop μ-loop
-add-found c = omega arith
-
-add-i : tie.Need-add-i Inv-loop μ-loop
-add-i c = omega arith
-
-loop-less : tie.Need-loop-less Inv-loop μ-loop
-loop-less c = omega arith
-
 loop-again : tie.Need-loop-again Inv-loop μ-loop
 unfolding sumTo replaced jobAt freshJob
 loop-again c =
@@ -86,13 +62,13 @@ ranks-spec =
     Inv-loop
     μ-loop
     loop-holds
-    mul-job
-    element-copy-out-job
-    rank-requires
-    mul-ranks
-    array-write-ranks
-    add-found
-    add-i
-    loop-less
+    (λ c. omega arith)
+    (λ c. omega arith)
+    (λ c κs. search needs)
+    (λ c. omega arith)
+    (λ c. omega arith)
+    (λ c. omega arith)
+    (λ c. omega arith)
+    (λ c. omega arith)
     loop-again
     returns)

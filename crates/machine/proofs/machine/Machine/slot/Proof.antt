@@ -26,12 +26,6 @@ few : (m : Machine) → runnerCount m ≤ openCount m
 unfolding runnerCount
 few m = omega arith
 
-is-sound-requires : tie.Need-is-sound-requires
-is-sound-requires c κs = search needs
-
-refused-requires : tie.Need-refused-requires
-refused-requires c κs = search needs
-
 returns : tie.Need-returns
 unfolding slot
 returns c = rw (was-false (c .before .before .is-sound .ensures) (c .before .if1 .taken)) (c .refused .ensures)
@@ -64,8 +58,8 @@ pub slot-spec : {M : Type 1} → statement M
 slot-spec =
     tie.close
     (tie.spec
-    is-sound-requires
-    refused-requires
+    (λ c κs. search needs)
+    (λ c κs. search needs)
     returns
     ranks-requires
     runner-count-requires
