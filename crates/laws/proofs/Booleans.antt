@@ -1,6 +1,7 @@
 -- Laws of Booleans that mathlib lacks.
-use mathlib.Core.Path.{_≡_, refl, sym}
-use mathlib.Core.Bool.{Bool, true, false, cond, _&&_}
+use mathlib.Core.Path.{_≡_, refl, sym, _∙_}
+use mathlib.Core.Bool.{Bool, true, false, cond, not, _&&_}
+use borrow.Author.Tests.{not-true, not-false}
 use mir.Val.{boolByte}
 use Rattle.laws.proofs.CaseSplits.{not-both}
 
@@ -22,3 +23,10 @@ both-ways false false f g = refl
 pub bool-byte : (b : Bool) → boolByte b ≡ cond b 1 0
 bool-byte true = refl
 bool-byte false = refl
+
+-- what a test of a call's result says of what the call ensures: past `if !result` it was true, and inside it was false
+pub was-true : {result is : Bool} → result ≡ is → not result ≡ false → is ≡ true
+was-true e left = sym e ∙ not-false _ left
+
+pub was-false : {result is : Bool} → result ≡ is → not result ≡ true → is ≡ false
+was-false e taken = sym e ∙ not-true _ taken

@@ -1,8 +1,8 @@
 -- When a log closes a job that has l slots left and owes b: what its first entry settles, and what it leaves to the rest. Others cite
 -- `closes`, the five laws and `closes-by-slot`.
 use Prim.Native.Nat.{ℕ, _-_, _≤_, _<_}
-use mathlib.Core.Path.{_≡_, refl}
-use mathlib.Core.Bool.{Bool, true, false, cond, _||_, or-comm}
+use mathlib.Core.Path.{_≡_}
+use mathlib.Core.Bool.{Bool, true, false, cond, _||_, or-comm, or-assoc, or-true}
 use mathlib.Core.List.{List, _∷_}
 use native.Mathlib.Omega.{arith}
 use borrow.Author.Tests.{le-leb, lt-leb, ne-eqb}
@@ -18,14 +18,6 @@ pub closes-by-slot : (number : ℕ) (k : Task) (log : List Entry) → closedBySl
 unfolding closes closedBySlot
 closes-by-slot number k log = or-comm (ranWhole number (k .budget) (upToSlot (k .deadline) log)) (anyFinish number (upToSlot (k .deadline) log))
 
-or-more : (f a r : Bool) → (a || r) ≡ true → ((f || a) || r) ≡ true
-or-more true a r h = refl
-or-more false a r h = h
-
-or-last : (a : Bool) → (a || true) ≡ true
-or-last true = refl
-or-last false = refl
-
 module _ (number l b : ℕ) (e : Entry) (log : List Entry) (l-some : 1 ≤ l) where
   goes-in : upToSlot l (e ∷ log) ≡ e ∷ upToSlot (cond (acceptedSlot e) (l - 1) l) log
   unfolding upToSlot
@@ -35,7 +27,7 @@ module _ (number l b : ℕ) (e : Entry) (log : List Entry) (l-some : 1 ≤ l) wh
   still-settled :
       (c : ℕ) (up : List Entry) → (anyFinish number up || ranWhole number c up) ≡ true
       → ((acceptedFinish number e || anyFinish number up) || ranWhole number c up) ≡ true
-  still-settled c up h = or-more (acceptedFinish number e) (anyFinish number up) (ranWhole number c up) h
+  still-settled c up h = rw (or-assoc, h, or-true)
 
   pub closes-finish : acceptedFinish number e ≡ true → closes number l b (e ∷ log) ≡ true
   unfolding closes anyFinish
@@ -63,4 +55,4 @@ module _ (number l b : ℕ) (e : Entry) (log : List Entry) (l-some : 1 ≤ l) wh
 
       pub closes-last : b ≤ 1 → saysFinished number e ≡ true → closes number l b (e ∷ log) ≡ true
       unfolding closes ranWhole
-      closes-last few finishes = rw (goes-in, runs, le-leb b 1 few, finishes, or-last)
+      closes-last few finishes = rw (goes-in, runs, le-leb b 1 few, finishes, or-true)

@@ -1,6 +1,6 @@
 -- Every open job is closed by the slots that it has left: `closing`, by induction on the calls.
 use Prim.Native.Nat.{ℕ, suc, _-_, _≤_, _<_}
-use mathlib.Core.Path.{_≡_, refl, _∙_}
+use mathlib.Core.Path.{_≡_, refl}
 use mathlib.Core.Bool.{Bool, true, false}
 use mathlib.Core.List.{List, [], _∷_}
 use lib.ListN.{getD}
@@ -26,20 +26,12 @@ use Rattle.machine.specs.declared.call.Call.{Call}
 use Rattle.machine.specs.declared.call.Call.the-variants.{Release, Finish, Slot, Join}
 use Rattle.machine.specs.declared.answer.Answer.{Answer}
 use Rattle.machine.proofs.State.{jobsOf}
-use Rattle.machine.proofs.SlotStep.{slot-step, finished-is}
+use Rattle.machine.proofs.SlotStep.{finished-is}
 use Rattle.machine.proofs.CallCases.{ReleaseTaken, FinishTaken, JoinTaken, afterRelease, afterFinish, refusal, accepted, slotAnswer, by-call}
-use Rattle.machine.proofs.JobSteps.{release-step, finish-step}
-use Rattle.machine.proofs.JoinStep.{join-step}
-use Rattle.machine.proofs.Kept.{Kept, kept-release, kept-finish, kept-join, kept-slot, slot-on-time}
+use Rattle.machine.proofs.JobSteps.{release-step, finish-step, join-step}
+use Rattle.machine.proofs.Kept.{Kept, kept-release, kept-finish, kept-join}
+use Rattle.machine.proofs.Going.{Going, left-some, budget-some, going-same, going-on}
 use Rattle.machine.proofs.ClosesLaws.{closes, closes-finish, closes-past, closes-idle, closes-ran, closes-last}
-
--- task i has an open job, with l slots left, that owes b
-pub record Going (m : Machine) (i l b : ℕ) : Type 0 where
-  pub kept : Kept m
-  pub inside : i < m .table .count
-  pub is-open : jobsOf m .isOpen i ≡ true
-  pub left-is : jobsOf m .left i ≡ l
-  pub budget-is : jobsOf m .budget i ≡ b
 
 -- the job of task i closes in time in this log
 ClosesIn : (i l b : ℕ) → List Entry → Type 0
@@ -58,28 +50,10 @@ AllClose : (i : ℕ) → List Call → Type 0
 AllClose i calls = (m : Machine) (l b : ℕ) → Going m i l b → ClosesIn i l b (play m calls)
 
 module _ (m : Machine) (i l b : ℕ) (going : Going m i l b) where
-  left-some : 1 ≤ l
-  unfolding tasksOf firstTasks
-  left-some = omega (arith, going .left-is, going .kept .safe .shape i (going .inside) .while-open (going .is-open) .left-some)
-
-  budget-some : 1 ≤ b
-  unfolding tasksOf firstTasks
-  budget-some = omega (arith, going .budget-is, going .kept .safe .shape i (going .inside) .while-open (going .is-open) .budget-some)
-
-  going-same : (m' : Machine) → Kept m' → i < m' .table .count → SameJob (jobsOf m) (jobsOf m') i → Going m' i l b
-  going-same m' kept' inside' same =
-      record {
-        kept = kept';
-        inside = inside';
-        is-open = same .same-open ∙ going .is-open;
-        left-is = same .same-left ∙ going .left-is;
-        budget-is = same .same-budget ∙ going .budget-is;
-      }
-
   -- an entry that is no slot, where the job goes on
   past : (e : Entry) (log : List Entry) → acceptedSlot e ≡ false → ClosesIn i l b log → ClosesIn i l b (e ∷ log)
   unfolding ClosesIn slotCount
-  past e log no-slot rest bound = closes-past (suc i) l b e log left-some no-slot (rest (rw no-slot at bound))
+  past e log no-slot rest bound = closes-past (suc i) l b e log (left-some going) no-slot (rest (rw no-slot at bound))
 
   module _ (calls : List Call) (rest : AllClose i calls) where
     after-refusal : (call : Call) (number place : ℕ) → ClosesAfter i l b calls call (refusal m number place)
@@ -91,7 +65,7 @@ module _ (m : Machine) (i l b : ℕ) (going : Going m i l b) where
         (call : Call) (m' : Machine) → isSlot call ≡ false → Kept m' → i < m' .table .count → SameJob (jobsOf m) (jobsOf m') i
         → ClosesAfter i l b calls call (accepted m' noReport)
     unfolding AllClose ClosesAfter acceptedSlot isDone
-    after-other call m' no-slot kept' inside' same = past _ _ no-slot (rest m' l b (going-same m' kept' inside' same))
+    after-other call m' no-slot kept' inside' same = past _ _ no-slot (rest m' l b (going-same going m' kept' inside' same))
 
     after-release : (number : ℕ) → ReleaseTaken m number → ClosesAfter i l b calls (Release number) (accepted (afterRelease m number) noReport)
     unfolding isSlot tasksOf firstTasks afterRelease withJob jobsOf
@@ -99,83 +73,61 @@ module _ (m : Machine) (i l b : ℕ) (going : Going m i l b) where
         by-equal i (number - 1)
         (λ e. not-both (jobAt m i .«open») (going .is-open) (rw e (taken .was-closed)))
         (λ ne.
-        after-other (Release number) (afterRelease m number) refl (kept-release m (going .kept) number taken) (going .inside)
+        after-other _ _ refl (kept-release m (going .kept) number taken) (going .inside)
         (release-step m (going .kept .all-jobs) number taken .rest i (going .inside) ne))
 
     after-finish : (number : ℕ) → FinishTaken m number → ClosesAfter i l b calls (Finish number) (accepted (afterFinish m number) noReport)
     unfolding ClosesIn ClosesAfter acceptedFinish isDone isSlot isFinishOf tasksOf firstTasks afterFinish withJob
     after-finish number taken =
         by-equal i (number - 1)
-        (λ e bound. closes-finish (suc i) l b _ _ left-some (eq-eqb number (suc i) (omega (arith, taken .is-task .some))))
+        (λ e bound. closes-finish (suc i) l b _ _ (left-some going) (eq-eqb number (suc i) (omega (arith, taken .task .some))))
         (λ ne.
-        after-other (Finish number) (afterFinish m number) refl (kept-finish m (going .kept) number taken) (going .inside)
+        after-other _ _ refl (kept-finish m (going .kept) number taken) (going .inside)
         (finish-step m (going .kept .all-jobs) number taken .rest i (going .inside) ne))
 
     after-join : (t : Task) → JoinTaken m t → ClosesAfter i l b calls (Join t) (accepted (withJoined m t) noReport)
     unfolding isSlot tasksOf firstTasks withJoined withTask
     after-join t taken =
-        after-other (Join t) (withJoined m t) refl (kept-join m (going .kept) t taken) (omega (arith, going .inside))
+        after-other _ _ refl (kept-join m (going .kept) t taken) (omega (arith, going .inside))
         (join-step m (going .kept .all-jobs) t (taken .room) .same-jobs i (going .inside))
 
-module _ (m : Machine) (i l b : ℕ) (going : Going m i l b) (is-sound : sound m ≡ true) where
-  -- a job that still owes after the slot goes on
-  going-on : (b' : ℕ) → b - bit (getD (runners m) i false) ≡ b' → 1 ≤ b' → Going (afterSlot m) i (l - 1) b'
-  unfolding afterSlot tasksOf firstTasks
-  going-on b' owes some =
-      let in-time = slot-on-time m (going .kept) is-sound i (going .inside) (going .is-open) in
-      let still =
-      slot-step m is-sound .effect i (going .inside) .stays-open (going .is-open)
-      (omega (arith, going .budget-is))
-      (omega (arith, going .budget-is)) in
-      record {
-        kept = kept-slot m (going .kept) is-sound;
-        inside = going .inside;
-        is-open = still .still-open;
-        left-is = rw (going .left-is) at (still .now-left);
-        budget-is = omega (arith, still .now-budget, going .budget-is);
-      }
+  module _ (is-sound : sound m ≡ true) where
+    -- what the answer says of task i
+    says-ran : (t : Bool) → getD (runners m) i false ≡ t → saysRan (suc i) (entryOf Slot (slotAnswer m)) ≡ t
+    unfolding saysRan acceptedSlot isDone isSlot slotReport
+    says-ran t e =
+        let same : suc i - 1 ≡ i = omega arith in
+        rw (same, e)
 
-  -- what the answer says of task i
-  says-ran : (t : Bool) → getD (runners m) i false ≡ t → saysRan (suc i) (entryOf Slot (slotAnswer m)) ≡ t
-  unfolding saysRan acceptedSlot isDone isSlot slotReport
-  says-ran t e =
-      let same : suc i - 1 ≡ i = omega arith in
-      rw (same, e)
+    says-finished : b - bit (getD (runners m) i false) ≡ 0 → saysFinished (suc i) (entryOf Slot (slotAnswer m)) ≡ true
+    unfolding saysFinished acceptedSlot isDone isSlot
+    says-finished e =
+        let same : suc i - 1 ≡ i = omega arith in
+        rw same (finished-is m i is-sound (going .inside) (going .is-open) (omega (arith, going .budget-is)))
 
-  says-finished :
-      b - bit (getD (runners m) i false) ≡ 0
-      → saysFinished (suc i) (entryOf Slot (slotAnswer m)) ≡ true
-  unfolding saysFinished acceptedSlot isDone isSlot
-  says-finished e =
-      let same : suc i - 1 ≡ i = omega arith in
-      rw same (finished-is m i is-sound (going .inside) (going .is-open) (omega (arith, going .budget-is)))
+    module _ (calls : List Call) (rest : AllClose i calls) where
+      after-idle : getD (runners m) i false ≡ false → ClosesAfter i l b calls Slot (slotAnswer m)
+      unfolding AllClose ClosesIn ClosesAfter slotCount acceptedSlot isDone isSlot
+      after-idle idle bound =
+          let owes = going-on going is-sound b (omega (arith, bit-false (getD (runners m) i false) idle)) (budget-some going) in
+          closes-idle (suc i) l b _ _ (left-some going) refl (says-ran false idle) (rest (afterSlot m) (l - 1) b owes (omega arith))
 
-  module _ (calls : List Call) (rest : AllClose i calls) where
-    after-idle : getD (runners m) i false ≡ false → ClosesAfter i l b calls Slot (slotAnswer m)
-    unfolding AllClose ClosesIn ClosesAfter slotCount acceptedSlot isDone isSlot
-    after-idle idle bound =
-        closes-idle (suc i) l b _ _ (left-some m i l b going) refl (says-ran false idle)
-        (rest (afterSlot m) (l - 1) b
-        (going-on b (omega (arith, bit-false (getD (runners m) i false) idle)) (budget-some m i l b going))
-        (omega arith))
+      after-run : getD (runners m) i false ≡ true → ClosesAfter i l b calls Slot (slotAnswer m)
+      unfolding AllClose ClosesIn ClosesAfter slotCount acceptedSlot isDone isSlot
+      after-run runs bound =
+          let one = bit-true (getD (runners m) i false) runs in
+          by-order b 1
+          (λ few. closes-last (suc i) l b _ _ (left-some going) refl (says-ran true runs) few (says-finished (omega arith)))
+          (λ more.
+          closes-ran (suc i) l b _ _ (left-some going) refl (says-ran true runs) more
+          (rest (afterSlot m) (l - 1) (b - 1) (going-on going is-sound (b - 1) (omega arith) (omega arith)) (omega arith)))
 
-    after-run : getD (runners m) i false ≡ true → ClosesAfter i l b calls Slot (slotAnswer m)
-    unfolding AllClose ClosesIn ClosesAfter slotCount acceptedSlot isDone isSlot
-    after-run runs bound =
-        let one = bit-true (getD (runners m) i false) runs in
-        by-order b 1
-        (λ few.
-        closes-last (suc i) l b _ _ (left-some m i l b going) refl (says-ran true runs) few (says-finished (omega arith)))
-        (λ more.
-        closes-ran (suc i) l b _ _ (left-some m i l b going) refl (says-ran true runs) more
-        (rest (afterSlot m) (l - 1) (b - 1) (going-on (b - 1) (omega arith) (omega arith)) (omega arith)))
-
-    after-slot : ClosesAfter i l b calls Slot (slotAnswer m)
-    after-slot = by-test (getD (runners m) i false) after-run after-idle
+      after-slot : ClosesAfter i l b calls Slot (slotAnswer m)
+      after-slot = by-test (getD (runners m) i false) after-run after-idle
 
 all-close : (i : ℕ) (calls : List Call) → AllClose i calls
 unfolding AllClose ClosesIn ClosesAfter play slotCount
-all-close i [] m l b going = λ bound. absurd (omega (arith, left-some m i l b going))
+all-close i [] m l b going = λ bound. absurd (omega (arith, left-some going))
 all-close i (call ∷ calls) m l b going =
     let rest = all-close i calls in
     by-call m (ClosesAfter i l b calls)

@@ -6,7 +6,7 @@ use mathlib.Core.List.{List, [], _∷_}
 use lib.ListN.{getD}
 use native.Mathlib.Omega.{arith}
 use Rattle.tasks.specs.declared.table.Table.{Table}
-use Rattle.laws.proofs.CaseSplits.{by-test, not-both}
+use Rattle.laws.proofs.CaseSplits.{by-test, clash}
 use Rattle.machine.specs.Machine.{taskAt, withJob}
 use Rattle.machine.specs.Slot.{slotReport, afterSlot}
 use Rattle.tasks.specs.Outcome.{isDone}
@@ -14,7 +14,7 @@ use Rattle.machine.specs.Sound.{sound}
 use Rattle.job.specs.Job.{releasedJob}
 use Rattle.machine.specs.Calls.{withJoined, step}
 use Rattle.machine.specs.Play.{play}
-use Rattle.machine.specs.InTime.{slotCount, joinedBy, closedBySlot, InTime, Promise}
+use Rattle.machine.specs.InTime.{slotCount, joinedBy, closedBySlot, Promise}
 use Rattle.machine.specs.declared.machine.Machine.{Machine}
 use Rattle.machine.specs.declared.call.Call.{Call}
 use Rattle.machine.proofs.State.{jobsOf}
@@ -23,8 +23,9 @@ use Rattle.machine.proofs.CallCases.{ReleaseTaken, afterRelease, afterF
 use Rattle.machine.proofs.JobSteps.{released-job}
 use Rattle.machine.proofs.Kept.{Kept, kept-release, kept-call, slot-on-time, freshMachine, started, kept-fresh}
 use Rattle.machine.proofs.ClosesLaws.{closes-by-slot}
-use Rattle.machine.proofs.InTimeLaws.{EntryInTime, quiet-report, quiet-in-time, in-time-none, in-time-more}
-use Rattle.machine.proofs.Closing.{Going, entryOf, closing}
+use Rattle.machine.proofs.InTimeLaws.{EntryInTime, EachInTime, quiet-report, quiet-in-time, each-none, each-more, each-in-time}
+use Rattle.machine.proofs.Going.{Going}
+use Rattle.machine.proofs.Closing.{entryOf, closing}
 
 -- an accepted join's task is added to the table, and nothing else changes it
 table-after : (m : Machine) (call : Call) → step m call .machine .table ≡ cond (isDone (step m call .outcome)) (joinedBy call (m .table)) (m .table)
@@ -58,7 +59,7 @@ module _ (m : Machine) (kept : Kept m) where
       let job = released-job m (kept .all-jobs) number taken in
       record {
         kept = kept-release m kept number taken;
-        inside = omega (arith, taken .is-task .some, taken .is-task .fits);
+        inside = taken .task .inside;
         is-open = rw job;
         left-is = rw job;
         budget-is = rw job;
@@ -68,7 +69,7 @@ module _ (m : Machine) (kept : Kept m) where
       let k = taskAt m (number - 1) in
       k .deadline ≤ slotCount (play (afterRelease m number) calls) → closedBySlot number k (play (afterRelease m number) calls) ≡ true
   release-closed calls number taken bound =
-      let from-one : suc (number - 1) ≡ number = omega (arith, taken .is-task .some) in
+      let from-one : suc (number - 1) ≡ number = omega (arith, taken .task .some) in
       let k = taskAt m (number - 1) in
       closes-by-slot number k (play (afterRelease m number) calls)
       ∙ rw from-one at
@@ -80,7 +81,7 @@ module _ (m : Machine) (kept : Kept m) where
   unfolding isDone taskAt
   entry-in-time calls =
       by-call m (λ call answer. EntryInTime (m .table) (entryOf call answer) (play (answer .machine) calls))
-      (λ call number place. quiet-in-time _ _ _ refl (λ n e d. not-both false d refl))
+      (λ call number place. quiet-in-time _ _ _ refl (λ n e d. clash cc))
       (λ n taken.
       record {
         not-late = quiet-report;
@@ -88,21 +89,21 @@ module _ (m : Machine) (kept : Kept m) where
             let same : n ≡ number = cc in
             rw (← same) (release-closed calls n taken);
       })
-      (λ n taken. quiet-in-time _ _ _ refl (λ number e d. not-both false (cc) refl))
-      (λ is-sound. record { not-late = slot-in-time is-sound; closed = λ number e d. not-both false (cc) refl })
-      (λ t taken. quiet-in-time _ _ _ refl (λ number e d. not-both false (cc) refl))
+      (λ n taken. quiet-in-time _ _ _ refl (λ number e d. clash cc))
+      (λ is-sound. record { not-late = slot-in-time is-sound; closed = λ number e d. clash cc })
+      (λ t taken. quiet-in-time _ _ _ refl (λ number e d. clash cc))
 
-in-time : (calls : List Call) (m : Machine) → Kept m → InTime (m .table) (play m calls)
+each-entry : (calls : List Call) (m : Machine) → Kept m → EachInTime (m .table) (play m calls)
 unfolding play
-in-time [] m kept = in-time-none (m .table)
-in-time (call ∷ calls) m kept =
+each-entry [] m kept = each-none (m .table)
+each-entry (call ∷ calls) m kept =
     let answer = step m call in
-    in-time-more (m .table) (answer .machine .table) (entryOf call answer) (play (answer .machine) calls)
+    each-more (m .table) (answer .machine .table) (entryOf call answer) (play (answer .machine) calls)
     (entry-in-time m kept calls call)
     (table-after m call)
-    (in-time calls (answer .machine) (kept-call m kept call))
+    (each-entry calls (answer .machine) (kept-call m kept call))
 
 pub promise : (t : Table) (cores : ℕ) → Promise t cores
 unfolding Promise freshMachine
 promise t cores yes-admitted calls =
-    rw (started t cores yes-admitted) (in-time calls (freshMachine t cores) (kept-fresh t cores yes-admitted))
+    rw (started t cores yes-admitted) (each-in-time _ _ (each-entry calls (freshMachine t cores) (kept-fresh t cores yes-admitted)))

@@ -1,19 +1,19 @@
--- The claim of a log, entry by entry: `in-time-none` for the empty log and `in-time-more` for one entry in front, whose own claim is
--- `EntryInTime`; `quiet-in-time` gives that of an entry that reports nothing and is no release.
+-- The claim of a log, entry by entry: `each-in-time`. The claim of one entry is `EntryInTime`; `quiet-in-time` gives that of an entry that reports
+-- nothing and is no release; `each-none` and `each-more` put them together, for the empty log and for one entry in front.
 use Prim.Native.Nat.{ℕ, _-_, _≤_}
-use mathlib.Core.Path.{_≡_, refl, sym, ap}
+use mathlib.Core.Path.{_≡_}
 use mathlib.Core.Bool.{true, false, cond}
 use mathlib.Core.List.{List, [], _∷_, _++_}
 use lib.ListN.{getD}
 use Rattle.tasks.specs.declared.table.Table.{Table}
 use Rattle.tasks.specs.Table.{zeroTask}
-use Rattle.laws.proofs.CaseSplits.{not-both}
+use Rattle.laws.proofs.CaseSplits.{clash}
 use Rattle.laws.proofs.Replaced.{replicate-entry}
 use Rattle.tasks.specs.Limits.{maxTasks}
 use Rattle.machine.specs.Slot.{noReport}
 use Rattle.tasks.specs.Outcome.{isDone}
 use Rattle.machine.specs.Play.{Entry}
-use Rattle.machine.specs.InTime.{isSlot, slotCount, joinedBy, tableAfter, closedBySlot, InTime}
+use Rattle.machine.specs.InTime.{slotCount, joinedBy, tableAfter, closedBySlot, InTime}
 use Rattle.machine.specs.declared.call.Call.the-variants.{Release}
 
 -- the claim of one entry that a machine on the table t answers, with the log after it
@@ -39,56 +39,31 @@ quiet-in-time t x log quiet no-release =
       closed = λ number e d. absurd (no-release number e d);
     }
 
-no-split : {A : Type 0} (before after : List Entry) (e : Entry) → [] ≡ before ++ e ∷ after → A
-no-split [] after e split = not-both false (cc) refl
-no-split (y ∷ before) after e split = not-both false (cc) refl
+-- the claim of every entry of a log from a machine on the table t, each with the log after it
+abbrev pub EachInTime : Table → List Entry → Type 0
+EachInTime t log = (before after : List Entry) (e : Entry) → log ≡ before ++ e ∷ after → EntryInTime (tableAfter t before) e after
 
-pub in-time-none : (t : Table) → InTime t []
-in-time-none t =
+pub each-none : (t : Table) → EachInTime t []
+each-none t [] after e split = clash cc
+each-none t (y ∷ before) after e split = clash cc
+
+pub each-more :
+    (t t' : Table) (x : Entry) (log : List Entry) → EntryInTime t x log
+    → t' ≡ cond (isDone (x .outcome)) (joinedBy (x .call) t) t → EachInTime t' log
+    → EachInTime t (x ∷ log)
+unfolding tableAfter
+each-more t t' x log first then-table rest [] after e split =
+    let same : x ≡ e = cc in
+    let tail : log ≡ after = cc in
+    rw (← same, ← tail) first
+each-more t t' x log first then-table rest (y ∷ before) after e split =
+    let same : x ≡ y = cc in
+    let tail : log ≡ before ++ e ∷ after = cc in
+    rw (← same, ← then-table) (rest before after e tail)
+
+pub each-in-time : (t : Table) (log : List Entry) → EachInTime t log → InTime t log
+each-in-time t log each =
     record {
-      none-late = λ before after e split. no-split before after e split;
-      all-closed = λ before after e number split. no-split before after e split;
+      none-late = λ before after e split is-slot. each before after e split .not-late;
+      all-closed = λ before after e number split. each before after e split .closed number;
     }
-
-module _
-    (t t' : Table)
-    (x : Entry)
-    (log : List Entry)
-    (first : EntryInTime t x log)
-    (then-table : t' ≡ cond (isDone (x .outcome)) (joinedBy (x .call) t) t)
-    (rest : InTime t' log)
-  where
-    none-late :
-        (before after : List Entry) (e : Entry) → x ∷ log ≡ before ++ e ∷ after → isSlot (e .call) ≡ true
-        → (i : ℕ) → getD (e .report .late) i false ≡ false
-    none-late [] after e split is-slot =
-        let same : x ≡ e = cc in
-        rw (← same) (first .not-late)
-    none-late (y ∷ before) after e split is-slot =
-        let tail : log ≡ before ++ e ∷ after = cc in
-        rest .none-late before after e tail is-slot
-
-    table-now : tableAfter t [] ≡ t
-    unfolding tableAfter
-    table-now = refl
-
-    table-later : (before : List Entry) → tableAfter t (x ∷ before) ≡ tableAfter t' before
-    unfolding tableAfter
-    table-later before = ap (λ (s : Table). tableAfter s before) (sym then-table)
-
-    all-closed :
-        (before after : List Entry) (e : Entry) (number : ℕ) → x ∷ log ≡ before ++ e ∷ after
-        → e .call ≡ Release number → isDone (e .outcome) ≡ true
-        → let k = getD (tableAfter t before .tasks) (number - 1) zeroTask in
-        k .deadline ≤ slotCount after → closedBySlot number k after ≡ true
-    all-closed [] after e number split =
-        let same : x ≡ e = cc in
-        let tail : log ≡ after = cc in
-        rw (← same, ← tail, table-now) (first .closed number)
-    all-closed (y ∷ before) after e number split =
-        let same : x ≡ y = cc in
-        let tail : log ≡ before ++ e ∷ after = cc in
-        rw (← same, table-later before) (rest .all-closed before after e number tail)
-
-    pub in-time-more : InTime t (x ∷ log)
-    in-time-more = record { none-late = none-late; all-closed = all-closed }

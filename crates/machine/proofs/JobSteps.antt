@@ -1,39 +1,40 @@
--- An accepted release and an accepted finish, each of which sets one job, are the theory's steps: `release-step` and `finish-step`.
--- The job that a release opens is `released-job`.
+-- An accepted release, finish and join are the theory's steps: `release-step`, `finish-step` and `join-step`. The job that a release opens is
+-- `released-job`.
 use Prim.Native.Nat.{ℕ, _-_, _<_}
 use mathlib.Core.Path.{_≡_}
-use mathlib.Core.Bool.{true}
 use lib.ListN.{length}
+use lib.Seq.{getD-set-same, getD-set-other}
+use native.Mathlib.Numerals.{add-one}
 use native.Mathlib.Omega.{arith}
+use Rattle.tasks.specs.declared.task.Task.{Task}
+use Rattle.tasks.specs.declared.table.Table.{Table}
 use Rattle.tasks.specs.Limits.{maxTasks}
-use Rattle.tasks.proofs.Checked.{passes}
+use Rattle.tasks.specs.TaskSet.{firstTasks, tasksOf}
+use Rattle.tasks.specs.Table.{zeroTask, withTask}
 use Rattle.edzl.proofs.WellFormed.{WellFormed}
 use Rattle.edzl.proofs.Release.{Released}
 use Rattle.edzl.proofs.Finish.{Finished}
-use Rattle.tasks.specs.TaskSet.{firstTasks, tasksOf}
-use Rattle.job.specs.Job.{closedJob, releasedJob}
+use Rattle.edzl.proofs.WindowLaws.{SameTask}
+use Rattle.edzl.proofs.Join.{Joined}
+use Rattle.job.specs.Job.{freshJob, closedJob, releasedJob}
 use Rattle.machine.specs.Machine.{taskAt, jobAt}
-use Rattle.machine.specs.Sound.{sound}
 use Rattle.machine.specs.declared.machine.Machine.{Machine}
-use Rattle.machine.proofs.State.{jobsOf}
-use Rattle.machine.proofs.JobPlaces.{job-set, rest-same}
-use Rattle.machine.proofs.SoundLaws.{sound-checks, sound-fits}
-use Rattle.machine.proofs.CallCases.{NumberFits, ReleaseTaken, FinishTaken, afterRelease, afterFinish}
+use Rattle.machine.specs.Calls.{withJoined}
+use Rattle.machine.proofs.State.{jobsOf, same-job, job-set, rest-same}
+use Rattle.machine.proofs.SoundLaws.{sound-fits}
+use Rattle.machine.proofs.CallCases.{ReleaseTaken, FinishTaken, afterRelease, afterFinish}
 
 module _ (m : Machine) (all-jobs : length (m .jobs) ≡ maxTasks) (number : ℕ) where
-  has-place : sound m ≡ true → NumberFits m number → number - 1 < length (m .jobs)
-  has-place is-sound is-task = omega (arith, passes _ _ (sound-checks m is-sound) .count-fits)
-
   pub released-job : ReleaseTaken m number → jobAt (afterRelease m number) (number - 1) ≡ releasedJob (taskAt m (number - 1))
   unfolding afterRelease
-  released-job taken = job-set m (number - 1) (releasedJob (taskAt m (number - 1))) (has-place (taken .is-sound) (taken .is-task))
+  released-job taken = job-set m (number - 1) (releasedJob (taskAt m (number - 1))) (omega (arith, taken .task .index))
 
   pub release-step : ReleaseTaken m number → Released (tasksOf (m .table)) (number - 1) (jobsOf m) (jobsOf (afterRelease m number))
   unfolding jobsOf tasksOf firstTasks afterRelease releasedJob taskAt WellFormed
   release-step taken =
       let i : ℕ = number - 1 in
       let job = released-job taken in
-      let fits = sound-fits m (taken .is-sound) i (omega (arith, taken .is-task .some, taken .is-task .fits)) in
+      let fits = sound-fits m (taken .task .is-sound) i (taken .task .inside) in
       record {
         was-closed = taken .was-closed;
         was-free = taken .was-free;
@@ -42,17 +43,44 @@ module _ (m : Machine) (all-jobs : length (m .jobs) ≡ maxTasks) (number : ℕ)
         budget-some = rw job (fits .budget-some);
         budget-fits = rw job (omega arith);
         now-gap = rw job;
-        rest = λ k h ne. rest-same m i (releasedJob (taskAt m i)) k ne;
+        rest = λ k h ne. rest-same m i _ k ne;
       }
 
   pub finish-step : FinishTaken m number → Finished (tasksOf (m .table)) (number - 1) (jobsOf m) (jobsOf (afterFinish m number))
   unfolding jobsOf afterFinish closedJob
   finish-step taken =
       let i : ℕ = number - 1 in
-      let job = job-set m i (closedJob (jobAt m i)) (has-place (taken .is-sound) (taken .is-task)) in
+      let job : jobAt (afterFinish m number) i ≡ _ = job-set m i _ (omega (arith, taken .task .index)) in
       record {
         was-open = taken .was-open;
         ended = record { closed = rw job; left-none = rw job; budget-none = rw job };
         same-gap = rw job;
-        rest = λ k h ne. rest-same m i (closedJob (jobAt m i)) k ne;
+        rest = λ k h ne. rest-same m i _ k ne;
+      }
+
+-- a longer table has the tasks that it had
+same-task : (t : Table) (k : Task) (i : ℕ) → i < t .count → SameTask (tasksOf t) (tasksOf (withTask t k)) i
+unfolding tasksOf firstTasks withTask
+same-task t k i h =
+    let e = getD-set-other (t .tasks) (t .count) i k zeroTask (λ e. omega arith) in
+    record { same-period = rw e; same-budget = rw e; same-deadline = rw e }
+
+module _ (m : Machine) (all-jobs : length (m .jobs) ≡ maxTasks) (t : Task) (room : m .table .count < maxTasks) where
+  old-job : (i : ℕ) → i < m .table .count → jobAt (withJoined m t) i ≡ jobAt m i
+  unfolding withJoined jobAt
+  old-job i h = getD-set-other (m .jobs) (m .table .count) i freshJob freshJob (λ e. omega arith)
+
+  new-job : jobAt (withJoined m t) (m .table .count) ≡ freshJob
+  unfolding withJoined jobAt
+  new-job = getD-set-same (m .jobs) (m .table .count) freshJob freshJob (omega arith)
+
+  pub join-step : Joined (tasksOf (m .table)) (tasksOf (withTask (m .table) t)) (jobsOf m) (jobsOf (withJoined m t))
+  unfolding jobsOf tasksOf firstTasks withTask freshJob
+  join-step =
+      record {
+        one-more = add-one (m .table .count);
+        same-tasks = λ i h. same-task (m .table) t i h;
+        same-jobs = λ i h. same-job m (withJoined m t) i (old-job i h);
+        new-job = record { closed = rw new-job; left-none = rw new-job; budget-none = rw new-job };
+        new-gap = rw new-job;
       }

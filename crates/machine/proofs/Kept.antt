@@ -3,19 +3,18 @@
 use Prim.Native.Nat.{ℕ, _-_, _≤_, _<_}
 use mathlib.Core.Path.{_≡_}
 use mathlib.Core.Bool.{true, false}
-use lib.ListN.{length, getD, replicate, length-set, length-replicate, getD-replicate}
-use native.Mathlib.Omega.{arith}
+use lib.ListN.{length, getD, replicate, length-set, length-replicate}
 use Rattle.tasks.specs.declared.task.Task.{Task}
 use Rattle.tasks.specs.declared.table.Table.{Table}
 use Rattle.tasks.specs.Limits.{maxTasks}
 use Rattle.tasks.specs.Table.{withTask}
-use Rattle.tasks.proofs.Checked.{passes}
 use Rattle.edzl.specs.Sums.{bit}
 use Rattle.edzl.specs.Window.{admitted}
 use Rattle.edzl.proofs.Invariant.{Fresh}
 use Rattle.edzl.proofs.NoSlack.{Safe, safe-fresh, safe-release, safe-finish, safe-slot, on-time, safe-join}
 use Rattle.tasks.specs.TaskSet.{firstTasks, tasksOf}
 use Rattle.judge.specs.Judge.{judged}
+use Rattle.job.specs.declared.job.Job.{Job}
 use Rattle.job.specs.Job.{freshJob}
 use Rattle.machine.specs.Machine.{jobAt, withJob}
 use Rattle.machine.specs.Pick.{runners}
@@ -28,11 +27,10 @@ use Rattle.machine.proofs.State.{jobsOf}
 use Rattle.machine.proofs.SlotStep.{slot-step}
 use Rattle.tasks.proofs.TaskSetLaws.{well-checked}
 use Rattle.judge.proofs.Outcome.{Admits, admits-means}
-use Rattle.laws.proofs.Replaced.{length-replaced}
+use Rattle.laws.proofs.Replaced.{replicate-entry, length-replaced}
 use Rattle.machine.proofs.SoundLaws.{sound-fits}
-use Rattle.machine.proofs.CallCases.{NumberFits, ReleaseTaken, FinishTaken, JoinTaken, afterRelease, afterFinish, by-call}
-use Rattle.machine.proofs.JobSteps.{release-step, finish-step}
-use Rattle.machine.proofs.JoinStep.{join-step}
+use Rattle.machine.proofs.CallCases.{ReleaseTaken, FinishTaken, JoinTaken, afterRelease, afterFinish, by-call}
+use Rattle.machine.proofs.JobSteps.{release-step, finish-step, join-step}
 
 pub record Kept (m : Machine) : Type 0 where
   pub safe : Safe (tasksOf (m .table)) (m .cores) (jobsOf m)
@@ -56,101 +54,72 @@ module _ (t : Table) (cores : ℕ) (yes-admitted : judged t cores .admits ≡ tr
   unfolding tasksOf firstTasks jobsOf jobAt freshMachine freshJob
   fresh-jobs =
       record {
-        none = λ i h. record { closed = rw (job i h); left-none = rw (job i h); budget-none = rw (job i h) };
-        gap-none = λ i h. rw (job i h);
+        none = λ i h.
+            let job = replicate-entry maxTasks i freshJob in
+            record { closed = rw job; left-none = rw job; budget-none = rw job };
+        gap-none = λ i h. rw (replicate-entry maxTasks i freshJob);
       }
-    where
-      job : (i : ℕ) → i < t .count → getD (replicate maxTasks freshJob) i freshJob ≡ freshJob
-      job i h =
-          getD-replicate maxTasks i freshJob freshJob (omega (arith, passes t cores (means .checks) .count-fits))
 
   pub kept-fresh : Kept (freshMachine t cores)
   unfolding freshMachine
   kept-fresh =
       record {
-        safe = safe-fresh (tasksOf t) cores (jobsOf (freshMachine t cores)) fresh-jobs;
+        safe = safe-fresh _ _ _ fresh-jobs;
         admits = means .admits;
         all-jobs = length-replicate maxTasks freshJob;
       }
 
 module _ (m : Machine) (kept : Kept m) where
-  in-table : (number : ℕ) → NumberFits m number → number - 1 < tasksOf (m .table) .count
-  unfolding tasksOf firstTasks
-  in-table number fits = omega arith
+  -- a call that sets one job keeps the rest
+  kept-job : (i : ℕ) (j : Job) → Safe (tasksOf (m .table)) (m .cores) (jobsOf (withJob m i j)) → Kept (withJob m i j)
+  unfolding withJob
+  kept-job i j safe = record { safe = safe; admits = kept .admits; all-jobs = rw length-set (kept .all-jobs) }
 
   pub kept-release : (number : ℕ) → ReleaseTaken m number → Kept (afterRelease m number)
-  unfolding afterRelease withJob
+  unfolding tasksOf firstTasks afterRelease
   kept-release number taken =
-      record {
-        safe =
-            safe-release (tasksOf (m .table)) (sound-fits m (taken .is-sound)) (m .cores) (jobsOf m) (jobsOf (afterRelease m number))
-            (kept .safe)
-            (number - 1)
-            (in-table number (taken .is-task))
-            (release-step m (kept .all-jobs) number taken);
-        admits = kept .admits;
-        all-jobs = rw length-set (kept .all-jobs);
-      }
+      kept-job _ _
+      (safe-release _ (sound-fits m (taken .task .is-sound)) _ _ _ (kept .safe) _ (taken .task .inside)
+      (release-step m (kept .all-jobs) number taken))
 
   pub kept-finish : (number : ℕ) → FinishTaken m number → Kept (afterFinish m number)
-  unfolding afterFinish withJob
+  unfolding tasksOf firstTasks afterFinish
   kept-finish number taken =
-      record {
-        safe =
-            safe-finish (tasksOf (m .table)) (sound-fits m (taken .is-sound)) (m .cores) (jobsOf m) (jobsOf (afterFinish m number))
-            (kept .safe)
-            (number - 1)
-            (in-table number (taken .is-task))
-            (finish-step m (kept .all-jobs) number taken);
-        admits = kept .admits;
-        all-jobs = rw length-set (kept .all-jobs);
-      }
+      kept-job _ _
+      (safe-finish _ (sound-fits m (taken .task .is-sound)) _ _ _ (kept .safe) _ (taken .task .inside)
+      (finish-step m (kept .all-jobs) number taken))
 
   pub kept-join : (t : Task) → JoinTaken m t → Kept (withJoined m t)
   unfolding withJoined
   kept-join t taken =
       let longer = admits-means (withTask (m .table) t) (m .cores) (taken .admits) in
       record {
-        safe =
-            safe-join (tasksOf (m .table)) (tasksOf (withTask (m .table) t)) (m .cores) (jobsOf m) (jobsOf (withJoined m t))
-            (well-checked _ _ (longer .checks))
-            (join-step m (kept .all-jobs) t (taken .room))
-            (kept .safe);
+        safe = safe-join _ _ _ _ _ (well-checked _ _ (longer .checks)) (join-step m (kept .all-jobs) t (taken .room)) (kept .safe);
         admits = longer .admits;
         all-jobs = rw length-set (kept .all-jobs);
       }
 
-pub kept-slot : (m : Machine) → Kept m → sound m ≡ true → Kept (afterSlot m)
-unfolding afterSlot
-kept-slot m kept is-sound =
-    record {
-      safe =
-          safe-slot (tasksOf (m .table)) (sound-fits m is-sound) (m .cores) (jobsOf m) (jobsOf (afterSlot m))
-          (kept .safe)
-          (kept .admits)
-          (λ i. getD (runners m) i false)
-          (slot-step m is-sound);
-      admits = kept .admits;
-      all-jobs = rw length-replaced (kept .all-jobs);
-    }
+  pub kept-slot : sound m ≡ true → Kept (afterSlot m)
+  unfolding afterSlot
+  kept-slot is-sound =
+      record {
+        safe = safe-slot _ (sound-fits m is-sound) _ _ _ (kept .safe) (kept .admits) _ (slot-step m is-sound);
+        admits = kept .admits;
+        all-jobs = rw length-replaced (kept .all-jobs);
+      }
 
--- a job owes no more after a slot than it has slots left
-pub slot-on-time :
-    (m : Machine) → Kept m → sound m ≡ true → (i : ℕ) → i < m .table .count → jobsOf m .isOpen i ≡ true
-    → jobsOf m .budget i - bit (getD (runners m) i false) ≤ jobsOf m .left i - 1
-unfolding tasksOf firstTasks
-slot-on-time m kept is-sound =
-    on-time (tasksOf (m .table)) (sound-fits m is-sound) (m .cores) (jobsOf m) (jobsOf (afterSlot m))
-    (kept .safe)
-    (kept .admits)
-    (λ i. getD (runners m) i false)
-    (slot-step m is-sound)
+  -- a job owes no more after a slot than it has slots left
+  pub slot-on-time :
+      sound m ≡ true → (i : ℕ) → i < m .table .count → jobsOf m .isOpen i ≡ true
+      → jobsOf m .budget i - bit (getD (runners m) i false) ≤ jobsOf m .left i - 1
+  unfolding tasksOf firstTasks
+  slot-on-time is-sound = on-time _ (sound-fits m is-sound) _ _ _ (kept .safe) (kept .admits) _ (slot-step m is-sound)
 
-pub kept-call : (m : Machine) → Kept m → (call : Call) → Kept (step m call .machine)
-kept-call m kept =
-    by-call m (λ call answer. Kept (answer .machine))
-    (λ call number place. kept)
-    (kept-release m kept)
-    (kept-finish m kept)
-    (kept-slot m kept)
-    (kept-join m kept)
+  pub kept-call : (call : Call) → Kept (step m call .machine)
+  kept-call =
+      by-call m (λ call answer. Kept (answer .machine))
+      (λ call number place. kept)
+      kept-release
+      kept-finish
+      kept-slot
+      kept-join

@@ -20,7 +20,7 @@ use Rattle.machine.specs.Ranks.{rankAt, ranks}
 use Rattle.machine.specs.Sound.{sound}
 use Rattle.machine.specs.declared.machine.Machine.{Machine}
 use Rattle.machine.proofs.SoundLaws.{sound-passes, sound-left}
-use Rattle.machine.proofs.PickLaws.{waits-open}
+use Rattle.machine.proofs.Waiting.{waits-open}
 
 pub length-ranks : (m : Machine) (picked : List Bool) → length (ranks m picked) ≡ maxTasks
 unfolding ranks

@@ -1,13 +1,14 @@
 -- A slot of a sound machine is one of the theory's. Others cite: `slot-step`; and `late-is` and `finished-is`, on the report.
 use Prim.Native.Nat.{ℕ, _-_, _≤_, _<_}
 use mathlib.Core.Path.{_≡_, sym, _∙_}
-use mathlib.Core.Bool.{Bool, true, false, not, _&&_, and-eq-true-iff}
+use mathlib.Core.Bool.{Bool, true, false, not, _&&_}
 use native.Mathlib.Omega.{arith}
 use lib.Dec.{eqb}
 use lib.ListN.{getD, length, replicate, length-replicate, List·getD-eq-default}
 use borrow.Author.Tests.{eqb-true, eqb-false, eq-eqb, not-true}
 use Rattle.edzl.specs.Sums.{bit}
 use Rattle.laws.proofs.CaseSplits.{by-order, by-equal, not-both}
+use Rattle.laws.proofs.Booleans.{and-left, and-right}
 use Rattle.laws.specs.Lists.{replaced}
 use Rattle.laws.proofs.Replaced.{replicate-entry, replaced-at, replaced-past, replaced-short}
 use Rattle.edzl.proofs.Invariant.{NoJob}
@@ -24,7 +25,7 @@ use Rattle.machine.specs.declared.machine.Machine.{Machine}
 use Rattle.job.proofs.SlotLaws.{settled-gap, settled-closed, settled-finished, settled-late, settled-open, fresh-stays}
 use Rattle.machine.proofs.State.{jobsOf}
 use Rattle.machine.proofs.SoundLaws.{sound-passes, sound-closed}
-use Rattle.machine.proofs.PickLaws.{runners-legal}
+use Rattle.machine.proofs.RunnersLegal.{runners-legal}
 
 module _ (m : Machine) where
   fresh-after : (i : ℕ) → jobAt m i ≡ freshJob → settled (passed m i) ≡ freshJob
@@ -54,14 +55,6 @@ module _ (m : Machine) (i : ℕ) (ok : sound m ≡ true) where
       replaced-at f (replicate maxTasks false) false (m .table .count) i h
       (omega (arith, length-replicate maxTasks false, sound-passes m ok .count-fits))
 
-  finished-at : i < m .table .count → getD (slotReport m .finished) i false ≡ isFinished (passed m i)
-  unfolding slotReport
-  finished-at h = reported (λ i. isFinished (passed m i)) h
-
-  late-at : i < m .table .count → getD (slotReport m .late) i false ≡ isLate (passed m i)
-  unfolding slotReport
-  late-at h = reported (λ i. isLate (passed m i)) h
-
   -- No task past the count is reported late.
   late-past : m .table .count ≤ i → getD (slotReport m .late) i false ≡ false
   unfolding slotReport
@@ -76,27 +69,27 @@ module _ (m : Machine) (i : ℕ) (ok : sound m ≡ true) where
   late-inside : i < m .table .count → isLate (passed m i) ≡ true → Late m i
   unfolding isLate passed aged charged jobsOf
   late-inside h e =
-      let (first, out) = and-eq-true-iff (passed m i .«open» && not (eqb (passed m i .budget) 0)) _ .0 e in
-      let (was-open, owes) = and-eq-true-iff (passed m i .«open») _ .0 first in
+      let first = passed m i .«open» && not (eqb (passed m i .budget) 0) in
+      let was-open = and-left (passed m i .«open») _ (and-left first _ e) in
       record {
         inside = h;
         was-open = was-open;
-        owes = eqb-false _ _ (not-true _ owes);
-        out = sym (passed-left was-open) ∙ eqb-true _ _ out;
+        owes = eqb-false _ _ (not-true _ (and-right (passed m i .«open») _ (and-left first _ e)));
+        out = sym (passed-left was-open) ∙ eqb-true _ _ (and-right first _ e);
       }
 
   pub late-is : getD (slotReport m .late) i false ≡ true → Late m i
+  unfolding slotReport
   late-is e =
       by-order (m .table .count) i
       (λ past. not-both (getD (slotReport m .late) i false) e (late-past past))
-      (λ h. late-inside h (sym (late-at h) ∙ e))
+      (λ h. late-inside h (sym (reported (λ i. isLate (passed m i)) h) ∙ e))
 
-  pub finished-is : i < m .table .count →
-      jobsOf m .isOpen i ≡ true →
-      jobsOf m .budget i - bit (getD (runners m) i false) ≡ 0 →
-      getD (slotReport m .finished) i false ≡ true
-  unfolding jobsOf isFinished passed aged charged
-  finished-is h o e = finished-at h ∙ rw (o, eq-eqb _ _ e)
+  pub finished-is :
+      i < m .table .count → jobsOf m .isOpen i ≡ true → jobsOf m .budget i - bit (getD (runners m) i false) ≡ 0
+      → getD (slotReport m .finished) i false ≡ true
+  unfolding slotReport jobsOf isFinished passed aged charged
+  finished-is h o e = reported (λ i. isFinished (passed m i)) h ∙ rw (o, eq-eqb _ _ e)
 
   module _ (h : i < m .table .count) where
     -- What step 4 closes has no job after the slot.
@@ -125,10 +118,9 @@ module _ (m : Machine) (i : ℕ) (ok : sound m ≡ true) where
         (λ done. none-after (settled-finished (passed m i) o done))
         (λ owes. none-after (settled-late (passed m i) o owes (passed-left o ∙ e)))
 
-    still-open : jobsOf m .isOpen i ≡ true →
-        1 ≤ jobsOf m .budget i - bit (getD (runners m) i false) →
-        1 ≤ jobsOf m .left i - 1 →
-        StillOpen (λ i. getD (runners m) i false) (jobsOf m) (jobsOf (afterSlot m)) i
+    still-open :
+        jobsOf m .isOpen i ≡ true → 1 ≤ jobsOf m .budget i - bit (getD (runners m) i false) → 1 ≤ jobsOf m .left i - 1
+        → StillOpen (λ i. getD (runners m) i false) (jobsOf m) (jobsOf (afterSlot m)) i
     unfolding jobsOf passed aged charged
     still-open o owes more =
         let now = after-slot-job m i h ∙ settled-open (passed m i) o (omega arith) (omega (arith, passed-left o)) in
@@ -145,9 +137,9 @@ module _ (m : Machine) (i : ℕ) (ok : sound m ≡ true) where
           stays-open = still-open;
         }
 
-pub slot-step : (m : Machine) →
-    sound m ≡ true →
-    Slotted (tasksOf (m .table)) (m .cores) (λ i. getD (runners m) i false) (jobsOf m) (jobsOf (afterSlot m))
+pub slot-step :
+    (m : Machine) → sound m ≡ true
+    → Slotted (tasksOf (m .table)) (m .cores) (λ i. getD (runners m) i false) (jobsOf m) (jobsOf (afterSlot m))
 unfolding tasksOf firstTasks
 slot-step m ok =
     record {

@@ -3,9 +3,10 @@
 -- left of an open one has 32 bits.
 use Prim.Native.Nat.{ℕ, zero, suc, _<_}
 use mathlib.Core.Path.{_≡_}
-use mathlib.Core.Bool.{true, false, and-eq-true-iff}
+use mathlib.Core.Bool.{true, false}
 use native.Mathlib.Omega.{arith}
 use Rattle.laws.proofs.CaseSplits.{by-equal, by-test, not-both}
+use Rattle.laws.proofs.Booleans.{and-left, and-right}
 use Rattle.edzl.proofs.WellFormed.{WellFormed}
 use Rattle.edzl.proofs.Invariant.{NoJob}
 use Rattle.tasks.specs.declared.outcome.Outcome.the-variants.{Done}
@@ -28,10 +29,9 @@ each-sound : (m : Machine) (n : ℕ) → jobsSound m n ≡ true → (i : ℕ) �
 unfolding jobsSound
 each-sound m zero e i h = absurd (omega arith)
 each-sound m (suc n) e i h =
-    let parts = and-eq-true-iff (jobsSound m n) _ .0 e in
     by-equal i n
-    (λ s. rw s (parts .1))
-    (λ ne. each-sound m n (parts .0) i (omega arith))
+    (λ s. rw s (and-right (jobsSound m n) _ e))
+    (λ ne. each-sound m n (and-left _ _ e) i (omega arith))
 
 -- one job that is not sound is enough
 pub one-unsound : (m : Machine) (n i : ℕ) → jobSound (taskAt m i) (jobAt m i) ≡ false → i < n → jobsSound m n ≡ false
@@ -41,7 +41,7 @@ one-unsound m n i e h =
 module _ (m : Machine) (ok : sound m ≡ true) where
   pub sound-checks : checked (m .table) (m .cores) ≡ Done
   unfolding sound
-  sound-checks = is-done _ (and-eq-true-iff (isDone (checked (m .table) (m .cores))) _ .0 ok .0)
+  sound-checks = is-done _ (and-left _ _ ok)
 
   pub sound-passes : Passes (m .table) (m .cores)
   sound-passes = passes (m .table) (m .cores) sound-checks
@@ -51,7 +51,7 @@ module _ (m : Machine) (ok : sound m ≡ true) where
 
   pub sound-job : (i : ℕ) → i < m .table .count → jobSound (taskAt m i) (jobAt m i) ≡ true
   unfolding sound
-  sound-job = each-sound m (m .table .count) (and-eq-true-iff (isDone (checked (m .table) (m .cores))) _ .0 ok .1)
+  sound-job = each-sound m (m .table .count) (and-right (isDone (checked (m .table) (m .cores))) _ ok)
 
   pub sound-closed : (i : ℕ) → i < m .table .count → jobAt m i .«open» ≡ false → NoJob (jobsOf m) i
   unfolding jobsOf

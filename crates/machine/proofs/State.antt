@@ -1,6 +1,13 @@
--- The machine's jobs as the theory's functions of an index.
-use Rattle.edzl.proofs.Invariant.{Jobs}
-use Rattle.machine.specs.Machine.{jobAt}
+-- The machine's jobs as the theory's functions of an index: `jobsOf`. After one of them was set, that one is the new one (`job-set`), and the
+-- others are as they were (`rest-same`, by `same-job`).
+use Prim.Native.Nat.{ℕ, _<_}
+use mathlib.Core.Path.{_≡_}
+use lib.ListN.{length}
+use lib.Seq.{getD-set-same, getD-set-other}
+use Rattle.edzl.proofs.Invariant.{Jobs, SameJob}
+use Rattle.job.specs.Job.{freshJob}
+use Rattle.job.specs.declared.job.Job.{Job}
+use Rattle.machine.specs.Machine.{jobAt, withJob}
 use Rattle.machine.specs.declared.machine.Machine.{Machine}
 
 unfoldable pub jobsOf : Machine → Jobs
@@ -11,3 +18,16 @@ jobsOf m =
       budget = λ i. jobAt m i .budget;
       gap = λ i. jobAt m i .gap;
     }
+
+pub same-job : (m m' : Machine) (i : ℕ) → jobAt m' i ≡ jobAt m i → SameJob (jobsOf m) (jobsOf m') i
+unfolding jobsOf
+same-job m m' i e = record { same-open = rw e; same-left = rw e; same-budget = rw e; same-gap = rw e }
+
+module _ (m : Machine) (i : ℕ) (j : Job) where
+  pub job-set : i < length (m .jobs) → jobAt (withJob m i j) i ≡ j
+  unfolding withJob jobAt
+  job-set h = getD-set-same (m .jobs) i j freshJob h
+
+  pub rest-same : (k : ℕ) → (k ≡ i → ⊥) → SameJob (jobsOf m) (jobsOf (withJob m i j)) k
+  unfolding withJob jobAt
+  rest-same k ne = same-job m (withJob m i j) k (getD-set-other (m .jobs) i k j freshJob ne)

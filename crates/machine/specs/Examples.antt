@@ -1,6 +1,6 @@
--- Examples beside the cases of document 01, as entries of lists of computed tests. `examples` has runs of the machine: 32 tasks on 16 cores,
--- joins, a task that turns urgent, refused calls. `claims` has logs made by hand, and what the claim of demand 3 says of them. `allTrue` is the
--- test; the theorems stand in proofs/ExamplesHold.antt.
+-- Examples beside the cases of document 01, as entries of lists of computed tests; above 150 lines because it is these lists alone, with the words
+-- that they are written in. `examples` has runs of the machine: 32 tasks on 16 cores, joins, a task that turns urgent, refused calls. `claims` has
+-- logs made by hand, and what the claim of demand 3 says of them. `allTrue` is the test; the theorems stand in proofs/ExamplesHold.antt.
 use Prim.Native.Nat.{ℕ}
 use mathlib.Core.Bool.{Bool, true, false, cond, not, _&&_}
 use mathlib.Core.List.{List, [], _∷_, _++_}

@@ -1,21 +1,22 @@
 -- What it takes for a table and a number of cores to pass `checked`: `passes`, and the fields of `Passes`.
 use Prim.Native.Nat.{ℕ, zero, suc, _+_, _≤_, _<_}
 use native.Mathlib.Omega.{arith}
-use native.Mathlib.Decide.{decLe}
-use mathlib.Core.Path.{_≡_, refl}
-use mathlib.Core.Bool.{Bool, true, false, cond, not, _&&_}
+use mathlib.Core.Path.{_≡_}
+use mathlib.Core.Bool.{true}
 use mathlib.Core.List.{List}
-use lib.Dec.{eqb, leb, ltb}
+use lib.Dec.{leb}
 use lib.ListN.{getD}
-use borrow.Author.Tests.{leb-true, ltb-false, eqb-true, eqb-false}
+use borrow.Author.Tests.{not-false, leb-true, ltb-false, eqb-true, eqb-false}
+use Rattle.laws.proofs.CaseSplits.{by-order, by-cond}
+use Rattle.laws.proofs.Booleans.{and-left, and-right}
 use Rattle.tasks.specs.Limits.{maxTasks, maxCores}
-use Rattle.tasks.specs.Refusals.{tooManyTasks, noTask, taskOutOfRange, coresOutOfRange}
 use Rattle.tasks.specs.Task.{inRange}
 use Rattle.tasks.specs.Table.{zeroTask}
 use Rattle.tasks.specs.Check.{firstOutOfRange, coresInRange, checked}
 use Rattle.tasks.specs.declared.task.Task.{Task}
 use Rattle.tasks.specs.declared.table.Table.{Table}
-use Rattle.tasks.specs.declared.outcome.Outcome.the-variants.{Done, Refused}
+use Rattle.tasks.specs.declared.outcome.Outcome.the-variants.{Done}
+use Rattle.tasks.proofs.OutcomeLaws.{past-test}
 
 pub record Passes (t : Table) (m : ℕ) : Type 0 where
   pub count-some : 1 ≤ t .count
@@ -28,49 +29,27 @@ pub record Passes (t : Table) (m : ℕ) : Type 0 where
 none-out : (tasks : List Task) (n i : ℕ) → firstOutOfRange tasks i n ≡ 0 → (j : ℕ) → i ≤ j → j < i + n → inRange (getD tasks j zeroTask) ≡ true
 unfolding firstOutOfRange
 none-out tasks zero i e j l h = absurd (omega arith)
-none-out tasks (suc n) i e j l h = go (inRange (getD tasks i zeroTask)) refl e (none-out tasks n (i + 1))
-  where
-    go :
-        (t : Bool) → inRange (getD tasks i zeroTask) ≡ t → cond t (firstOutOfRange tasks (i + 1) n) (i + 1) ≡ 0
-        → (firstOutOfRange tasks (i + 1) n ≡ 0 → (j : ℕ) → i + 1 ≤ j → j < i + 1 + n → inRange (getD tasks j zeroTask) ≡ true)
-        → inRange (getD tasks j zeroTask) ≡ true
-    go false q e ih = absurd (omega arith)
-    go true q e ih =
-        elim (decLe (i + 1) j) [
-          | yes b ↦ ih e j b (omega arith)
-          | no b ↦ let s : j ≡ i = omega arith in rw s q
-        ]
-
-cores-in : (m : ℕ) → coresInRange m ≡ true → (1 ≤ m) × (m ≤ maxCores)
-unfolding coresInRange
-cores-in m h = go (leb 1 m) (leb m maxCores) refl refl h
-  where
-    go : (a b : Bool) → leb 1 m ≡ a → leb m maxCores ≡ b → (a && b) ≡ true → (1 ≤ m) × (m ≤ maxCores)
-    go true true p q h = (leb-true 1 m p, leb-true m maxCores q)
-    go true false p q h = let z : _≡_ {A = ℕ} 0 1 = cc in absurd (omega arith)
-    go false b p q h = let z : _≡_ {A = ℕ} 0 1 = cc in absurd (omega arith)
+none-out tasks (suc n) i e j l h =
+    by-cond (λ place. place ≡ 0 → inRange (getD tasks j zeroTask) ≡ true) (inRange (getD tasks i zeroTask))
+    (λ fits rest.
+    by-order (i + 1) j
+    (λ later. none-out tasks n (i + 1) rest j later (omega arith))
+    (λ here. let same : j ≡ i = omega arith in rw same fits))
+    (λ out none. absurd (omega arith))
+    e
 
 pub passes : (t : Table) (m : ℕ) → checked t m ≡ Done → Passes t m
-unfolding checked
-passes t m e = go (ltb maxTasks (t .count)) (eqb (t .count) 0) (eqb place 0) (coresInRange m) refl refl refl refl e
-  where
-    place : ℕ
-    place = firstOutOfRange (t .tasks) 0 (t .count)
-
-    go :
-        (a b d f : Bool) → ltb maxTasks (t .count) ≡ a → eqb (t .count) 0 ≡ b → eqb place 0 ≡ d → coresInRange m ≡ f
-        → cond a (Refused tooManyTasks (maxTasks + 1))
-        (cond b (Refused noTask 0) (cond (not d) (Refused taskOutOfRange place) (cond (not f) (Refused coresOutOfRange 0) Done))) ≡ Done
-        → Passes t m
-    go false false true true p q r s e =
-        record {
-          count-some = let n = eqb-false (t .count) 0 q in omega arith;
-          count-fits = ltb-false maxTasks (t .count) p;
-          tasks-fit = λ i h. none-out (t .tasks) (t .count) 0 (eqb-true place 0 r) i (omega arith) (omega arith);
-          cores-some = cores-in m s .0;
-          cores-fit = cores-in m s .1;
-        }
-    go true b d f p q r s e = let z : _≡_ {A = ℕ} 0 1 = cc in absurd (omega arith)
-    go false true d f p q r s e = let z : _≡_ {A = ℕ} 0 1 = cc in absurd (omega arith)
-    go false false false f p q r s e = let z : _≡_ {A = ℕ} 0 1 = cc in absurd (omega arith)
-    go false false true false p q r s e = let z : _≡_ {A = ℕ} 0 1 = cc in absurd (omega arith)
+unfolding checked coresInRange
+passes t m =
+    past-test _ _ _ λ few.
+    past-test _ _ _ λ some.
+    past-test _ _ _ λ none.
+    past-test _ _ _ λ cores e.
+    let fit = not-false _ cores in
+    record {
+      count-some = let n = eqb-false (t .count) 0 some in omega arith;
+      count-fits = ltb-false _ _ few;
+      tasks-fit = λ i h. none-out (t .tasks) (t .count) 0 (eqb-true _ _ (not-false _ none)) i (omega arith) (omega arith);
+      cores-some = leb-true _ _ (and-left _ _ fit);
+      cores-fit = leb-true _ _ (and-right (leb 1 m) _ fit);
+    }

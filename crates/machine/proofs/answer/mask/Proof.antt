@@ -1,14 +1,12 @@
 -- `mask` meets its contract. The invariant: the sum is the mask of the entries that were passed.
-use Prim.Native.Nat.{_+_, _-_, _*_, _^_, _≤_, _<_}
-use native.Mathlib.Nat.{pow-le-pow-right}
+use Prim.Native.Nat.{_+_, _-_, _*_, _^_, _<_}
 use native.Mathlib.Omega.{arith}
 use mathlib.Core.Path.{_≡_}
 use mathlib.Core.Bool.{false}
 use mir.Val.{boolByte}
 use borrow.Author.Needs.{needs}
-use lib.Dec.{lit<}
 use lib.ListN.{length, getD}
-use Rattle.machine.proofs.MaskTurn.{Masked, masked-none, masked-more, room}
+use Rattle.machine.proofs.MaskTurn.{Masked, masked-none, masked-small, masked-more}
 use Rattle.machine.proofs.answer.mask.Statement.{statement}
 use Rattle.machine.proofs.answer.mask.Tie as tie
 
@@ -22,33 +20,21 @@ abbrev μ-loop : tie.MeasureT-loop
 fits : (c : tie.In-loop Inv-loop μ-loop) →
     let l = c .before in
     boolByte (getD (l .before .args .t1) (l .loop .i - 1) false) + 2 * l .loop .sum < 2 ^ 64
-fits c =
-    let l = c .before in
-    let few : 32 - (l .loop .i - 1) ≤ 32 = omega arith in
-    omega (arith, room _ _ _ (l .loop .inv) (c .loop-test .taken), pow-le-pow-right {n = 2} (lit< tt) few)
+fits c = omega (arith, masked-small _ _ _ (masked-more _ _ _ (c .before .loop .inv) (c .loop-test .taken)))
 
 loop-holds : tie.Need-loop-holds Inv-loop μ-loop
 loop-holds c =
     let e : length (c .args .t1) ≡ 32 = search needs in
     masked-none _ e
 
-sub-i : tie.Need-sub-i Inv-loop μ-loop
-sub-i c = omega arith
-
 array-read-sum : tie.Need-array-read-sum Inv-loop μ-loop
 array-read-sum c = omega (arith, c .before .loop .inv .within)
-
-cast-sum : tie.Need-cast-sum Inv-loop μ-loop
-cast-sum c = search needs
 
 mul-sum : tie.Need-mul-sum Inv-loop μ-loop
 mul-sum c = omega (arith, fits c)
 
 add-sum : tie.Need-add-sum Inv-loop μ-loop
 add-sum c = omega (arith, fits c)
-
-loop-less : tie.Need-loop-less Inv-loop μ-loop
-loop-less c = omega arith
 
 loop-again : tie.Need-loop-again Inv-loop μ-loop
 loop-again c = masked-more _ _ _ (c .before .loop .inv) (c .loop-test .taken)
@@ -65,11 +51,11 @@ mask-spec =
     Inv-loop
     μ-loop
     loop-holds
-    sub-i
+    (λ c. omega arith)
     array-read-sum
-    cast-sum
+    (λ c. search needs)
     mul-sum
     add-sum
-    loop-less
+    (λ c. omega arith)
     loop-again
     returns)

@@ -4,7 +4,7 @@ use native.Mathlib.Nat.{sub-zero}
 use native.Mathlib.Omega.{arith}
 use mathlib.Core.Path.{_≡_, sym, _∙_}
 use borrow.Author.Needs.{needs}
-use borrow.Author.Tests.{not-true, not-false}
+use Rattle.laws.proofs.Booleans.{was-true, was-false}
 use Rattle.tasks.specs.Table.{zeroTask}
 use Rattle.tasks.specs.Check.{firstOutOfRange}
 use Rattle.tasks.proofs.check.first_out_of_range.Statement.{statement}
@@ -19,21 +19,6 @@ abbrev μ-loop : tie.MeasureT-loop
 loop-holds : tie.Need-loop-holds Inv-loop μ-loop
 loop-holds c = (omega arith, rw (sub-zero (c .args .count)))
 
-mul-task : tie.Need-mul-task Inv-loop μ-loop
-mul-task c = omega arith
-
-array-copy-out-task : tie.Need-array-copy-out-task Inv-loop μ-loop
-array-copy-out-task c = omega arith
-
-in-range-requires : tie.Need-in-range-requires Inv-loop μ-loop
-in-range-requires c κs = search needs
-
-cast-result : tie.Need-cast-result Inv-loop μ-loop
-cast-result c = omega arith
-
-add-result : tie.Need-add-result Inv-loop μ-loop
-add-result c = omega arith
-
 -- a turn is left for the task at i
 more : (c : tie.After-in-range Inv-loop μ-loop) →
     let l = c .before .before .before in
@@ -44,19 +29,13 @@ returns : tie.Need-returns Inv-loop μ-loop
 unfolding firstOutOfRange zeroTask
 returns c =
     let d = c .before in
-    sym (d .before .before .before .loop .inv .1 ∙ rw (more d, sym (d .in-range .ensures) ∙ not-true _ (c .if1 .taken)))
-
-add-i : tie.Need-add-i Inv-loop μ-loop
-add-i c = omega arith
-
-loop-less : tie.Need-loop-less Inv-loop μ-loop
-loop-less c = omega arith
+    sym (d .before .before .before .loop .inv .1 ∙ rw (more d, was-false (d .in-range .ensures) (c .if1 .taken)))
 
 loop-again : tie.Need-loop-again Inv-loop μ-loop
 unfolding firstOutOfRange zeroTask
 loop-again c =
     let d = c .before in
-    (omega arith, d .before .before .before .loop .inv .1 ∙ rw (more d, sym (d .in-range .ensures) ∙ not-false _ (c .if1 .left)))
+    (omega arith, d .before .before .before .loop .inv .1 ∙ rw (more d, was-true (d .in-range .ensures) (c .if1 .left)))
 
 returns-2 : tie.Need-returns-2 Inv-loop μ-loop
 unfolding firstOutOfRange
@@ -71,13 +50,13 @@ first-out-of-range-spec =
     Inv-loop
     μ-loop
     loop-holds
-    mul-task
-    array-copy-out-task
-    in-range-requires
-    cast-result
-    add-result
+    (λ c. omega arith)
+    (λ c. omega arith)
+    (λ c κs. search needs)
+    (λ c. omega arith)
+    (λ c. omega arith)
     returns
-    add-i
-    loop-less
+    (λ c. omega arith)
+    (λ c. omega arith)
     loop-again
     returns-2)

@@ -4,12 +4,9 @@ use borrow.Author.Needs.{needs}
 use Rattle.machine.proofs.answer.Answer.done.Statement.{statement}
 use Rattle.machine.proofs.answer.Answer.done.Tie as tie
 
-none-requires : tie.Need-none-requires
-none-requires c κs = search needs
-
 returns : tie.Need-returns
 unfolding done
 returns c = rw (c .none .ensures)
 
 pub done-spec : {M : Type 1} → statement M
-done-spec = tie.close (tie.spec none-requires returns)
+done-spec = tie.close (tie.spec (λ c κs. search needs) returns)

@@ -4,12 +4,9 @@ use borrow.Author.Needs.{needs}
 use Rattle.machine.proofs.answer.Answer.refused.Statement.{statement}
 use Rattle.machine.proofs.answer.Answer.refused.Tie as tie
 
-none-requires : tie.Need-none-requires
-none-requires c κs = search needs
-
 returns : tie.Need-returns
 unfolding refuse
 returns c = rw (c .none .ensures)
 
 pub refused-spec : {M : Type 1} → statement M
-refused-spec = tie.close (tie.spec none-requires returns)
+refused-spec = tie.close (tie.spec (λ c κs. search needs) returns)

@@ -1,97 +1,74 @@
 -- `Machine::finish` meets its contract: each refusal in its order, and then the job.
 use native.Mathlib.Omega.{arith}
-use mathlib.Core.Path.{sym, _∙_}
-use borrow.Author.Tests.{not-true, not-false}
+use mathlib.Core.Path.{_≡_}
+use mathlib.Core.Bool.{true}
+use Rattle.laws.proofs.Booleans.{was-true, was-false}
 use Rattle.job.specs.Job.{freshJob}
 use Rattle.machine.specs.Machine.{jobAt}
+use Rattle.machine.specs.Sound.{sound}
 use Rattle.machine.specs.Calls.{finish}
-use Rattle.machine.proofs.TaskNumbers.{Inside, inside-of}
+use Rattle.machine.proofs.TaskNumbers.{KnownTask, known-task}
 use borrow.Author.Needs.{needs}
 use Rattle.machine.proofs.machine.Machine.finish.Statement.{statement}
 use Rattle.machine.proofs.machine.Machine.finish.Tie as tie
 
--- the number is that of a task: its index is within the arrays
-inside : (c : tie.Else2) → Inside (c .before .before .before .before .args .t1) (c .before .before .before .before .args .number)
-inside c =
-    let t = c .before in
-    let e = t .before in
-    inside-of _ _ (sym (e .before .is-sound .ensures) ∙ not-false _ (e .if1 .left)) (sym (t .in-table .ensures) ∙ not-false _ (c .if2 .left))
+-- past refusal 0 the machine is sound
+is-sound : (c : tie.Else1) → sound (c .before .before .args .t1) ≡ true
+is-sound c = was-true (c .before .is-sound .ensures) (c .if1 .left)
 
-is-sound-requires : tie.Need-is-sound-requires
-is-sound-requires c κs = search needs
-
-refused-requires : tie.Need-refused-requires
-refused-requires c κs = search needs
+-- past refusal 8 the number is that of a task
+known : (c : tie.Else2) → KnownTask (c .before .before .before .before .args .t1) (c .before .before .before .before .args .number)
+known c = known-task _ _ (is-sound (c .before .before)) (was-true (c .before .in-table .ensures) (c .if2 .left))
 
 returns : tie.Need-returns
 unfolding finish
-returns c = rw (sym (c .before .before .is-sound .ensures) ∙ not-true _ (c .before .if1 .taken)) (c .refused .ensures)
-
-in-table-requires : tie.Need-in-table-requires
-in-table-requires c κs = search needs
-
-refused-requires-2 : tie.Need-refused-requires-2
-refused-requires-2 c κs = search needs
+returns c = rw (was-false (c .before .before .is-sound .ensures) (c .before .if1 .taken)) (c .refused .ensures)
 
 returns-2 : tie.Need-returns-2
 unfolding finish
 returns-2 c =
     let t = c .before .before in
-    rw (sym (t .before .before .is-sound .ensures) ∙ not-false _ (t .before .if1 .left), sym (t .in-table .ensures) ∙ not-true _ (c .before .if2 .taken)) (c .refused2 .ensures)
+    rw (is-sound (t .before), was-false (t .in-table .ensures) (c .before .if2 .taken)) (c .refused2 .ensures)
 
 sub-i : tie.Need-sub-i
-sub-i c = omega (arith, inside c)
-
-mul-job : tie.Need-mul-job
-mul-job c = search needs
+sub-i c = omega (arith, known c)
 
 element-copy-out-job : tie.Need-element-copy-out-job
-element-copy-out-job c = omega (arith, inside c)
-
-refused-requires-3 : tie.Need-refused-requires-3
-refused-requires-3 c κs = search needs
+element-copy-out-job c = omega (arith, known c)
 
 returns-3 : tie.Need-returns-3
 unfolding finish jobAt freshJob
 returns-3 c =
-    let d = c .before .before .before .before in
-    let t = d .before in
-    rw (sym (t .before .before .is-sound .ensures) ∙ not-false _ (t .before .if1 .left), sym (t .in-table .ensures) ∙ not-false _ (d .if2 .left), c .before .if3 .taken) (c .refused3 .ensures)
-
-closed-requires : tie.Need-closed-requires
-closed-requires c κs = search needs
+    let task = known (c .before .before .before .before) in
+    rw (task .is-sound, task .in-table, c .before .if3 .taken) (c .refused3 .ensures)
 
 with-job-requires : tie.Need-with-job-requires
-with-job-requires c κs = omega (arith, inside (c .before .before .before .before))
-
-done-requires : tie.Need-done-requires
-done-requires c κs = search needs
+with-job-requires c κs = omega (arith, known (c .before .before .before .before))
 
 returns-4 : tie.Need-returns-4
 unfolding finish jobAt freshJob
 returns-4 c =
     let w = c .before in
     let e = w .before .before in
-    let d = e .before .before .before in
-    let t = d .before in
-    rw (sym (t .before .before .is-sound .ensures) ∙ not-false _ (t .before .if1 .left), sym (t .in-table .ensures) ∙ not-false _ (d .if2 .left), e .if3 .left, ← w .before .closed .ensures, ← w .with-job .ensures) (c .done .ensures)
+    let task = known (e .before .before .before) in
+    rw (task .is-sound, task .in-table, e .if3 .left, ← w .before .closed .ensures, ← w .with-job .ensures) (c .done .ensures)
 
 pub finish-spec : {M : Type 1} → statement M
 finish-spec =
     tie.close
     (tie.spec
-    is-sound-requires
-    refused-requires
+    (λ c κs. search needs)
+    (λ c κs. search needs)
     returns
-    in-table-requires
-    refused-requires-2
+    (λ c κs. search needs)
+    (λ c κs. search needs)
     returns-2
     sub-i
-    mul-job
+    (λ c. search needs)
     element-copy-out-job
-    refused-requires-3
+    (λ c κs. search needs)
     returns-3
-    closed-requires
+    (λ c κs. search needs)
     with-job-requires
-    done-requires
+    (λ c κs. search needs)
     returns-4)

@@ -7,18 +7,9 @@ use borrow.Author.Needs.{needs}
 use Rattle.machine.proofs.machine.Machine.is_sound.Statement.{statement}
 use Rattle.machine.proofs.machine.Machine.is_sound.Tie as tie
 
-check-requires : tie.Need-check-requires
-check-requires c κs = search needs
-
-enum-told : tie.Need-enum-told
-enum-told c = search needs
-
 returns : tie.Need-returns
 unfolding sound isDone
 returns c = rw (← c .before .before .check .ensures, c .enum-told .given .1)
-
-enum-told-2 : tie.Need-enum-told-2
-enum-told-2 c = search needs
 
 jobs-sound-requires : tie.Need-jobs-sound-requires
 jobs-sound-requires c κs = passes _ _ (sym (c .before .before .check .ensures) ∙ c .enum-told2 .given .1) .count-fits
@@ -31,4 +22,4 @@ returns-2 c =
 
 pub is-sound-spec : {M : Type 1} → statement M
 is-sound-spec =
-    tie.close (tie.spec check-requires enum-told returns enum-told-2 jobs-sound-requires returns-2)
+    tie.close (tie.spec (λ c κs. search needs) (λ c. search needs) returns (λ c. search needs) jobs-sound-requires returns-2)

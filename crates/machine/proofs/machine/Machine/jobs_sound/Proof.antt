@@ -2,10 +2,10 @@
 use Prim.Native.Nat.{_-_, _≤_}
 use native.Mathlib.Numerals.{add-one}
 use native.Mathlib.Omega.{arith}
-use mathlib.Core.Path.{_≡_, refl, sym, _∙_}
+use mathlib.Core.Path.{_≡_, refl, sym}
 use mathlib.Core.Bool.{true}
 use borrow.Author.Needs.{needs}
-use borrow.Author.Tests.{not-true, not-false}
+use Rattle.laws.proofs.Booleans.{was-true, was-false}
 use Rattle.tasks.specs.Table.{zeroTask}
 use Rattle.job.specs.Job.{freshJob}
 use Rattle.machine.specs.Machine.{taskAt, jobAt}
@@ -24,40 +24,19 @@ loop-holds : tie.Need-loop-holds Inv-loop μ-loop
 unfolding jobsSound
 loop-holds c = (omega arith, refl)
 
-mul-job : tie.Need-mul-job Inv-loop μ-loop
-mul-job c = omega arith
-
-element-copy-out-job : tie.Need-element-copy-out-job Inv-loop μ-loop
-element-copy-out-job c = omega arith
-
-mul-task : tie.Need-mul-task Inv-loop μ-loop
-mul-task c = omega arith
-
-element-copy-out-task : tie.Need-element-copy-out-task Inv-loop μ-loop
-element-copy-out-task c = omega arith
-
-is-sound-requires : tie.Need-is-sound-requires Inv-loop μ-loop
-is-sound-requires c κs = search needs
-
 returns : tie.Need-returns Inv-loop μ-loop
 unfolding taskAt jobAt zeroTask freshJob
 returns c =
     let d = c .before in
     let l = d .before .before .before .before in
-    sym (one-unsound (l .before .before .args .t1) _ (l .loop .i) (sym (d .is-sound .ensures) ∙ not-true _ (c .if1 .taken)) (d .before .before .before .loop-test .taken))
-
-add-i : tie.Need-add-i Inv-loop μ-loop
-add-i c = omega arith
-
-loop-less : tie.Need-loop-less Inv-loop μ-loop
-loop-less c = omega arith
+    sym (one-unsound (l .before .before .args .t1) _ (l .loop .i) (was-false (d .is-sound .ensures) (c .if1 .taken)) (d .before .before .before .loop-test .taken))
 
 loop-again : tie.Need-loop-again Inv-loop μ-loop
 unfolding jobsSound taskAt jobAt zeroTask freshJob
 loop-again c =
     let d = c .before in
     let l = d .before .before .before .before in
-    (omega arith, rw (add-one (l .loop .i), l .loop .inv .1) (sym (d .is-sound .ensures) ∙ not-false _ (c .if1 .left)))
+    (omega arith, rw (add-one (l .loop .i), l .loop .inv .1) (was-true (d .is-sound .ensures) (c .if1 .left)))
 
 returns-2 : tie.Need-returns-2 Inv-loop μ-loop
 returns-2 c =
@@ -71,13 +50,13 @@ jobs-sound-spec =
     Inv-loop
     μ-loop
     loop-holds
-    mul-job
-    element-copy-out-job
-    mul-task
-    element-copy-out-task
-    is-sound-requires
+    (λ c. omega arith)
+    (λ c. omega arith)
+    (λ c. omega arith)
+    (λ c. omega arith)
+    (λ c κs. search needs)
     returns
-    add-i
-    loop-less
+    (λ c. omega arith)
+    (λ c. omega arith)
     loop-again
     returns-2)

@@ -21,48 +21,6 @@ abbrev μ-loop : tie.MeasureT-loop
 loop-holds : tie.Need-loop-holds Inv-loop μ-loop
 loop-holds c = (omega arith, turned-none _)
 
-mul-job : tie.Need-mul-job Inv-loop μ-loop
-mul-job c = omega arith
-
-element-copy-out-job : tie.Need-element-copy-out-job Inv-loop μ-loop
-element-copy-out-job c = omega arith
-
-array-read-charged : tie.Need-array-read-charged Inv-loop μ-loop
-array-read-charged c = omega arith
-
-charged-requires : tie.Need-charged-requires Inv-loop μ-loop
-charged-requires c κs = search needs
-
-aged-requires : tie.Need-aged-requires Inv-loop μ-loop
-aged-requires c κs = search needs
-
-is-finished-requires : tie.Need-is-finished-requires Inv-loop μ-loop
-is-finished-requires c κs = search needs
-
-array-write-finished : tie.Need-array-write-finished Inv-loop μ-loop
-array-write-finished c = omega arith
-
-is-late-requires : tie.Need-is-late-requires Inv-loop μ-loop
-is-late-requires c κs = search needs
-
-array-write-late : tie.Need-array-write-late Inv-loop μ-loop
-array-write-late c = omega arith
-
-settled-requires : tie.Need-settled-requires Inv-loop μ-loop
-settled-requires c κs = search needs
-
-mul-t13 : tie.Need-mul-t13 Inv-loop μ-loop
-mul-t13 c = omega arith
-
-element-set-from-self : tie.Need-element-set-from-self Inv-loop μ-loop
-element-set-from-self c = omega arith
-
-add-i : tie.Need-add-i Inv-loop μ-loop
-add-i c = omega arith
-
-loop-less : tie.Need-loop-less Inv-loop μ-loop
-loop-less c = omega arith
-
 loop-again : tie.Need-loop-again Inv-loop μ-loop
 unfolding freshJob
 loop-again c =
@@ -88,19 +46,19 @@ passed-spec =
     Inv-loop
     μ-loop
     loop-holds
-    mul-job
-    element-copy-out-job
-    array-read-charged
-    charged-requires
-    aged-requires
-    is-finished-requires
-    array-write-finished
-    is-late-requires
-    array-write-late
-    settled-requires
-    mul-t13
-    element-set-from-self
-    add-i
-    loop-less
+    (λ c. omega arith)
+    (λ c. omega arith)
+    (λ c. omega arith)
+    (λ c κs. search needs)
+    (λ c κs. search needs)
+    (λ c κs. search needs)
+    (λ c. omega arith)
+    (λ c κs. search needs)
+    (λ c. omega arith)
+    (λ c κs. search needs)
+    (λ c. omega arith)
+    (λ c. omega arith)
+    (λ c. omega arith)
+    (λ c. omega arith)
     loop-again
     returns)

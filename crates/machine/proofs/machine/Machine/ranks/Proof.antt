@@ -33,50 +33,21 @@ loop-holds : tie.Need-loop-holds Inv-loop μ-loop
 unfolding sumTo replaced
 loop-holds c = (omega arith, refl, refl, omega arith)
 
-mul-job : tie.Need-mul-job Inv-loop μ-loop
-mul-job c = omega arith
-
-element-copy-out-job : tie.Need-element-copy-out-job Inv-loop μ-loop
-element-copy-out-job c = omega arith
-
-rank-requires : tie.Need-rank-requires Inv-loop μ-loop
-rank-requires c κs = search needs
-
-mul-ranks : tie.Need-mul-ranks Inv-loop μ-loop
-mul-ranks c = omega arith
-
-array-write-ranks : tie.Need-array-write-ranks Inv-loop μ-loop
-array-write-ranks c = omega arith
-
-add-found : tie.Need-add-found Inv-loop μ-loop
-add-found c = omega arith
-
-add-i : tie.Need-add-i Inv-loop μ-loop
-add-i c = omega arith
-
-loop-less : tie.Need-loop-less Inv-loop μ-loop
-loop-less c = omega arith
-
 loop-again : tie.Need-loop-again Inv-loop μ-loop
 unfolding sumTo replaced jobAt freshJob
 loop-again c =
     let r = c .before in
     let l = r .before .before .before in
-    let m = l .before .args .t1 in
-    ⊎-elim
-    (λ w. (
+    let i = l .loop .i in (
       omega arith,
-      rw (r .rank .ensures, l .loop .inv .1, add-one (l .loop .i), rank-unpicked m (l .loop .i)),
-      rw (add-one (l .loop .i)) (omega (arith, w .1, l .loop .inv, bit-true _ (w .0 .taken))),
-      omega (arith, w .1, l .loop .inv),
-    ))
-    (λ w. (
-      omega arith,
-      rw (r .rank .ensures, l .loop .inv .1, add-one (l .loop .i), rank-unpicked m (l .loop .i)),
-      rw (add-one (l .loop .i)) (omega (arith, w .1, l .loop .inv, bit-false _ (w .0 .left))),
-      omega (arith, w .1, l .loop .inv),
-    ))
-    (c .if1 .came)
+      rw (r .rank .ensures, l .loop .inv .1, add-one i, rank-unpicked (l .before .args .t1) i),
+      rw (add-one i)
+          (⊎-elim
+          (λ w. omega (arith, w .1, l .loop .inv, bit-true _ (w .0 .taken)))
+          (λ w. omega (arith, w .1, l .loop .inv, bit-false _ (w .0 .left)))
+          (c .if1 .came)),
+      ⊎-elim (λ w. omega (arith, w .1, l .loop .inv)) (λ w. omega (arith, w .1, l .loop .inv)) (c .if1 .came),
+    )
 
 returns : tie.Need-returns Inv-loop μ-loop
 unfolding openCount ranks
@@ -91,13 +62,13 @@ ranks-spec =
     Inv-loop
     μ-loop
     loop-holds
-    mul-job
-    element-copy-out-job
-    rank-requires
-    mul-ranks
-    array-write-ranks
-    add-found
-    add-i
-    loop-less
+    (λ c. omega arith)
+    (λ c. omega arith)
+    (λ c κs. search needs)
+    (λ c. omega arith)
+    (λ c. omega arith)
+    (λ c. omega arith)
+    (λ c. omega arith)
+    (λ c. omega arith)
     loop-again
     returns)

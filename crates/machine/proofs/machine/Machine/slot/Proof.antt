@@ -1,10 +1,10 @@
 -- `Machine::slot` meets its contract.
 use Prim.Native.Nat.{_≤_}
 use native.Mathlib.Omega.{arith}
-use mathlib.Core.Path.{_≡_, sym, ap, _∙_}
+use mathlib.Core.Path.{_≡_, ap, _∙_}
 use mathlib.Core.Bool.{true}
 use borrow.Author.Needs.{needs}
-use borrow.Author.Tests.{not-true, not-false}
+use Rattle.laws.proofs.Booleans.{was-true, was-false}
 use Rattle.machine.specs.declared.machine.Machine.{Machine}
 use Rattle.machine.specs.declared.pick.Ranks.{Ranks}
 use Rattle.machine.specs.Pick.{openCount, runnerCount, runners}
@@ -16,7 +16,7 @@ use Rattle.machine.proofs.machine.Machine.slot.Tie as tie
 
 -- the machine is sound here, so it has 32 tasks at most
 is-sound : (c : tie.Else1) → sound (c .before .before .args .self) ≡ true
-is-sound c = sym (c .before .is-sound .ensures) ∙ not-false _ (c .if1 .left)
+is-sound c = was-true (c .before .is-sound .ensures) (c .if1 .left)
 
 fits : (c : tie.Else1) → c .before .before .args .self .table .count ≤ 32
 fits c = sound-passes _ (is-sound c) .count-fits
@@ -26,15 +26,9 @@ few : (m : Machine) → runnerCount m ≤ openCount m
 unfolding runnerCount
 few m = omega arith
 
-is-sound-requires : tie.Need-is-sound-requires
-is-sound-requires c κs = search needs
-
-refused-requires : tie.Need-refused-requires
-refused-requires c κs = search needs
-
 returns : tie.Need-returns
 unfolding slot
-returns c = rw (sym (c .before .before .is-sound .ensures) ∙ not-true _ (c .before .if1 .taken)) (c .refused .ensures)
+returns c = rw (was-false (c .before .before .is-sound .ensures) (c .before .if1 .taken)) (c .refused .ensures)
 
 ranks-requires : tie.Need-ranks-requires
 ranks-requires c κs = fits c
@@ -64,8 +58,8 @@ pub slot-spec : {M : Type 1} → statement M
 slot-spec =
     tie.close
     (tie.spec
-    is-sound-requires
-    refused-requires
+    (λ c κs. search needs)
+    (λ c κs. search needs)
     returns
     ranks-requires
     runner-count-requires

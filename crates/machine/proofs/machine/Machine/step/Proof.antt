@@ -4,30 +4,6 @@ use borrow.Author.Needs.{needs}
 use Rattle.machine.proofs.machine.Machine.step.Statement.{statement}
 use Rattle.machine.proofs.machine.Machine.step.Tie as tie
 
-enum-known-call : tie.Need-enum-known-call
-enum-known-call c = search needs
-
-release-requires : tie.Need-release-requires
-release-requires c κs = search needs
-
-enum-known-call-2 : tie.Need-enum-known-call-2
-enum-known-call-2 c = search needs
-
-finish-requires : tie.Need-finish-requires
-finish-requires c κs = search needs
-
-enum-told : tie.Need-enum-told
-enum-told c = search needs
-
-slot-requires : tie.Need-slot-requires
-slot-requires c κs = search needs
-
-enum-known-call-3 : tie.Need-enum-known-call-3
-enum-known-call-3 c = search needs
-
-join-requires : tie.Need-join-requires
-join-requires c κs = search needs
-
 returns : tie.Need-returns
 unfolding step
 returns c = rw (c .before .before .call .given .1) (c .release .ensures)
@@ -48,14 +24,14 @@ pub step-spec : {M : Type 1} → statement M
 step-spec =
     tie.close
     (tie.spec
-    enum-known-call
-    release-requires
-    enum-known-call-2
-    finish-requires
-    enum-told
-    slot-requires
-    enum-known-call-3
-    join-requires
+    (λ c. search needs)
+    (λ c κs. search needs)
+    (λ c. search needs)
+    (λ c κs. search needs)
+    (λ c. search needs)
+    (λ c κs. search needs)
+    (λ c. search needs)
+    (λ c κs. search needs)
     returns
     returns-2
     returns-3

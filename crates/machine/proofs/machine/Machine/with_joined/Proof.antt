@@ -7,21 +7,6 @@ use borrow.Author.Needs.{needs}
 use Rattle.machine.proofs.machine.Machine.with_joined.Statement.{statement}
 use Rattle.machine.proofs.machine.Machine.with_joined.Tie as tie
 
-mul-task : tie.Need-mul-task
-mul-task c = search needs
-
-element-set-from-task : tie.Need-element-set-from-task
-element-set-from-task c = search needs
-
-add-table : tie.Need-add-table
-add-table c = search needs
-
-fresh-job-requires : tie.Need-fresh-job-requires
-fresh-job-requires c κs = search needs
-
-with-job-requires : tie.Need-with-job-requires
-with-job-requires c κs = search needs
-
 returns : tie.Need-returns
 unfolding withJoined withTask withJob
 returns c = c .with-job .ensures ∙ rw (c .before .fresh-job .ensures)
@@ -30,9 +15,9 @@ pub with-joined-spec : {M : Type 1} → statement M
 with-joined-spec =
     tie.close
     (tie.spec
-    mul-task
-    element-set-from-task
-    add-table
-    fresh-job-requires
-    with-job-requires
+    (λ c. search needs)
+    (λ c. search needs)
+    (λ c. search needs)
+    (λ c κs. search needs)
+    (λ c κs. search needs)
     returns)

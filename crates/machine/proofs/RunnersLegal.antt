@@ -1,0 +1,73 @@
+-- The runners of a slot are a legal choice in the theory's sense: `runners-legal`.
+use Prim.Native.Nat.{ℕ, _≤_, _<_}
+use mathlib.Core.Path.{_≡_}
+use mathlib.Core.Bool.{true, false}
+use mathlib.Core.Logic.{inl, inr}
+use native.Mathlib.Omega.{arith}
+use lib.ListN.{getD}
+use borrow.Author.Tests.{le-leb, lt-leb}
+use Rattle.laws.proofs.CaseSplits.{by-order, by-test, not-both}
+use Rattle.edzl.specs.Sums.{sumTo, bit}
+use Rattle.edzl.proofs.SumLaws.{sum-strict, bit-true, bit-false, bit-monotone}
+use Rattle.edzl.proofs.Choice.{Beats, more-urgent, both-urgent, neither-urgent, LegalChoice}
+use Rattle.tasks.specs.Limits.{maxTasks}
+use Rattle.job.specs.Job.{isUrgent}
+use Rattle.job.proofs.Order.{by-urgency, by-left, holds}
+use Rattle.machine.specs.Machine.{jobAt}
+use Rattle.machine.specs.Pick.{openCount, precedes, candidates, runnerCount, runners}
+use Rattle.machine.specs.declared.machine.Machine.{Machine}
+use Rattle.machine.proofs.State.{jobsOf}
+use Rattle.machine.proofs.Waiting.{open-waits}
+use Rattle.machine.proofs.PickLaws.{Picked, picks}
+
+-- An open task that beats another in the theory's sense precedes it.
+module _ (m : Machine) (x y : ℕ) (open-x : jobAt m x .«open» ≡ true) (open-y : jobAt m y .«open» ≡ true) where
+  beats-precedes : Beats (jobsOf m) x y → precedes m x y ≡ true
+  unfolding jobsOf isUrgent precedes
+  beats-precedes (more-urgent u c) = holds _ x _ y (by-urgency (rw (open-x, le-leb _ _ u)) (rw (open-y, lt-leb _ _ c)))
+  beats-precedes (both-urgent u v l) = holds _ x _ y (by-left (rw (open-x, le-leb _ _ u, open-y, le-leb _ _ v)) l)
+  beats-precedes (neither-urgent c d l) = holds _ x _ y (by-left (rw (open-x, lt-leb _ _ c, open-y, lt-leb _ _ d)) l)
+
+module _ (m : Machine) (fits : m .table .count ≤ maxTasks) where
+  all-runners : Picked m (runnerCount m)
+  unfolding runnerCount
+  all-runners = picks m fits (runnerCount m) (omega arith)
+
+  runner-open : (i : ℕ) → getD (runners m) i false ≡ true → jobAt m i .«open» ≡ true
+  unfolding runners
+  runner-open = all-runners .opened
+
+  runners-number : sumTo (m .table .count) (λ i. bit (getD (runners m) i false)) ≡ runnerCount m
+  unfolding runners
+  runners-number = all-runners .number
+
+  -- Where as many run as are open, every open task runs.
+  all-run : openCount m ≤ runnerCount m → (i : ℕ) → i < m .table .count → jobAt m i .«open» ≡ true → getD (runners m) i false ≡ true
+  unfolding openCount
+  all-run h i l o =
+      by-test (getD (runners m) i false)
+      (λ runs. runs)
+      (λ idle.
+      absurd
+      (omega (
+        arith,
+        runners-number,
+        sum-strict (λ j. bit (getD (runners m) j false)) (λ j. bit (jobAt m j .«open»)) (m .table .count) i l
+            (λ j k. bit-monotone (getD (runners m) j false) (jobAt m j .«open») (runner-open j))
+            (omega (arith, bit-false (getD (runners m) i false) idle, bit-true (jobAt m i .«open») o)),
+      )))
+
+  pub runners-legal : LegalChoice (m .table .count) (m .cores) (λ i. getD (runners m) i false) (jobsOf m)
+  unfolding jobsOf candidates runnerCount runners
+  runners-legal =
+      record {
+        runner-open = λ i h. runner-open i;
+        enough =
+            by-order (m .cores) (openCount m)
+            (λ h. inl (omega (arith, runners-number)))
+            (λ h. inr (all-run (omega arith)));
+        none-beaten = λ x y x-in y-in open-x idle runs beats.
+            not-both (precedes m x y)
+            (beats-precedes m x y open-x (runner-open y runs) beats)
+            (all-runners .first y runs x x-in (open-waits m (runners m) x open-x idle));
+      }
