@@ -1,4 +1,4 @@
--- What a verdict says of the judging. Others cite: `outcome-is`, `refused-outcome` and `refused-values`, of a refusal; `JudgedValues` with
+-- What a verdict says of the judging. Others cite: `outcome-is` and `refused-outcome`, of a refusal; `JudgedValues` with
 -- `judged-values`, of COUNT and the admission; `count-small`; and `Admits` with `admits-means`, of a table that is admitted.
 use Prim.Native.Nat.{ℕ, _≤_}
 use native.Mathlib.Omega.{arith}
@@ -39,7 +39,7 @@ module _ (t : Table) (m : ℕ) where
   outcome-is = by-outcome (checked t m) (λ e. rw e) (λ number place e. rw e)
 
   -- a refused verdict has the refusal's number and place
-  pub refused-values : (number place : ℕ) → valuesOf (Refused number place) ≡ judged t m → judged t m .outcome ≡ Out.Refused number place
+  refused-values : (number place : ℕ) → valuesOf (Refused number place) ≡ judged t m → judged t m .outcome ≡ Out.Refused number place
   unfolding valuesOf refusedValues
   refused-values number place e = rw (← e)
 

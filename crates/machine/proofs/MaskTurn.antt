@@ -3,13 +3,14 @@
 use Prim.Native.Nat.{ℕ, suc, _+_, _-_, _*_, _^_, _≤_, _<_}
 use native.Mathlib.Nat.{pow-suc, pow-le-pow-right}
 use native.Mathlib.Omega.{arith}
-use mathlib.Core.Path.{_≡_, refl, ap, _∙_}
+use mathlib.Core.Path.{_≡_, ap, _∙_}
 use mathlib.Core.Bool.{Bool, true, false}
 use mathlib.Core.List.{List, [], _∷_}
 use mir.Val.{boolByte}
 use lib.Dec.{lit<}
 use lib.ListN.{length, getD, drop, length-drop, drop-of-length-le}
 use lib.Seq.{drop-cons}
+use Rattle.laws.proofs.Booleans.{bool-byte}
 use Rattle.edzl.specs.Sums.{bit}
 use Rattle.machine.specs.Mask.{mask}
 
@@ -33,8 +34,7 @@ masked-none named e =
 
 byte-bit : (b : Bool) → boolByte b ≡ bit b
 unfolding bit
-byte-bit true = refl
-byte-bit false = refl
+byte-bit b = bool-byte b
 
 module _ (named : List Bool) (sum i : ℕ) (m : Masked named sum i) where
   pub masked-small : sum < 2 ^ 32

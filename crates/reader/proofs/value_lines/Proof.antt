@@ -2,8 +2,8 @@
 use native.Mathlib.Omega.{arith}
 use mathlib.Core.Path.{sym, _∙_}
 use borrow.Author.Needs.{needs}
-use borrow.Author.Tests.{not-true, not-false}
 use lib.ListN.{length}
+use Rattle.laws.proofs.Booleans.{was-true, was-false}
 use Rattle.tasks.specs.Limits.{maxTasks}
 use Rattle.tasks.specs.Table.{emptyTable}
 use Rattle.reader.specs.Reading.{valueLines}
@@ -44,7 +44,7 @@ returns-3 c =
     c .refusal3 .ensures
     ∙ bad-task _ _ _ _ _ (d .before .before .loop .inv) (d .before .loop-test .taken) (d .if1 .left) _ _
     (sym (e .before .before .before .value-line .ensures) ∙ e .before .task .given .1)
-    (sym (c .before .before .in-range .ensures) ∙ not-true _ (c .before .if2 .taken))
+    (was-false (c .before .before .in-range .ensures) (c .before .if2 .taken))
 
 mul-task : tie.Need-mul-task Inv-loop μ-loop
 mul-task c = omega (arith, c .before .before .before .before .before .before .if1 .left)
@@ -80,7 +80,7 @@ loop-again c =
     let d = e .before .before .before .before .before .before in
     next _ _ _ _ _ (d .before .before .loop .inv) (d .before .loop-test .taken) (d .if1 .left) _ _
     (sym (e .before .before .before .before .before .value-line .ensures) ∙ e .before .before .before .task .given .1)
-    (sym (e .before .in-range .ensures) ∙ not-false _ (e .if2 .left))
+    (was-true (e .before .in-range .ensures) (e .if2 .left))
 
 returns-4 : tie.Need-returns-4 Inv-loop μ-loop
 returns-4 c = c .end .ensures ∙ finish _ _ _ _ _ (c .before .before .loop .inv) (c .before .loop-test .left)

@@ -5,8 +5,8 @@ use native.Mathlib.Numerals.{add-one}
 use native.Mathlib.Omega.{arith}
 use mathlib.Core.Path.{_≡_, refl, sym, _∙_}
 use borrow.Author.Needs.{needs}
-use borrow.Author.Tests.{not-true, not-false}
 use lib.ListN.{length}
+use Rattle.laws.proofs.Booleans.{was-true, was-false}
 use Rattle.job.proofs.RankSearch.{Least, least-past-idle, least-stays, least-is-next, none-is-next}
 use Rattle.job.proofs.RankSearch.{Reached, reached-start, reached-idle, reached-waiting, reached-rival}
 use Rattle.job.proofs.search.next_runner.Statement.{statement}
@@ -31,19 +31,19 @@ candidates-again : tie.Need-candidates-again Inv-rivals μ-rivals Inv-candidates
 candidates-again c =
     let w = c .before in
     let l = w .before .before .before in
-    (omega arith, reached-idle (l .candidates .inv .1) (sym (w .waits .ensures) ∙ not-true _ (c .if1 .taken)))
+    (omega arith, reached-idle (l .candidates .inv .1) (was-false (w .waits .ensures) (c .if1 .taken)))
 
 rivals-holds : tie.Need-rivals-holds Inv-rivals μ-rivals Inv-candidates μ-candidates
 rivals-holds c =
     let w = c .before in
     let l = w .before .before .before in
-    (refl, omega arith, reached-waiting (l .candidates .inv .1) (sym (w .waits .ensures) ∙ not-false _ (c .if1 .left)))
+    (refl, omega arith, reached-waiting (l .candidates .inv .1) (was-true (w .waits .ensures) (c .if1 .left)))
 
 rivals-again : tie.Need-rivals-again Inv-rivals μ-rivals Inv-candidates μ-candidates
 rivals-again c =
     let w = c .before in
     let l = w .before .before .before in
-    (l .rivals .inv .0, omega arith, least-past-idle (l .rivals .inv .2) (sym (w .waits2 .ensures) ∙ not-true _ (c .if2 .taken)))
+    (l .rivals .inv .0, omega arith, least-past-idle (l .rivals .inv .2) (was-false (w .waits2 .ensures) (c .if2 .taken)))
 
 candidates-again-2 : tie.Need-candidates-again-2 Inv-rivals μ-rivals Inv-candidates μ-candidates
 candidates-again-2 c =

@@ -3,8 +3,8 @@ use Prim.Native.Nat.{ℕ, _≤_}
 use mathlib.Core.Path.{_≡_, sym, ap, _∙_}
 use mathlib.Core.Bool.{true, false, cond}
 use mathlib.Core.List.{List}
-use borrow.Author.Tests.{not-true, not-false}
 use lib.ListN.{length, drop}
+use Rattle.laws.proofs.Booleans.{was-true, was-false}
 use Rattle.laws.proofs.Parts.{from-drop}
 use Rattle.text.specs.Words.{sameBytes, beginsWith}
 use Rattle.text.specs.Fields.{threeNumbers}
@@ -42,7 +42,7 @@ joins c =
 
 -- it begins with the word of a join
 begins : (c : tie.Else2) → beginsWith joinWord (line (slot-tried (release-tried (c .before .before .before)))) ≡ true
-begins c = sym (c .before .begins-with .ensures) ∙ not-false _ (c .if2 .left)
+begins c = was-true (c .before .begins-with .ensures) (c .if2 .left)
 
 join-fits : (c : tie.Else2) → 5 ≤ length (line (slot-tried (release-tried (c .before .before .before))))
 join-fits c = not-longer joinWord _ (begins c)
@@ -71,7 +71,7 @@ returns-3 c =
     rw (no-slot (slot-tried e), sym (e .before .before .number-after .ensures) ∙ e .enum-told .given .1, sym (n .before .before .number-after2 .ensures) ∙ n .number2 .given .1)
 
 returns-4 : tie.Need-returns-4
-returns-4 c = sym (joins (c .before .before .before) ∙ rw (sym (c .before .begins-with .ensures) ∙ not-true _ (c .if2 .taken)))
+returns-4 c = sym (joins (c .before .before .before) ∙ rw (was-false (c .before .begins-with .ensures) (c .if2 .taken)))
 
 sub-three-numbers : tie.Need-sub-three-numbers
 sub-three-numbers c = join-fits c

@@ -1,8 +1,8 @@
 -- `number_after` meets its contract: the number is what follows the word.
-use mathlib.Core.Path.{_≡_, sym, ap, _∙_}
+use mathlib.Core.Path.{_≡_, ap, _∙_}
 use mathlib.Core.Bool.{true}
-use borrow.Author.Tests.{not-true, not-false}
 use lib.ListN.{length}
+use Rattle.laws.proofs.Booleans.{was-true, was-false}
 use Rattle.laws.proofs.Parts.{from-drop}
 use Rattle.text.specs.Words.{beginsWith}
 use Rattle.text.specs.Number.{numberOf, numberAfter}
@@ -13,12 +13,12 @@ use Rattle.text.proofs.number.number_after.Tie as tie
 
 returns : tie.Need-returns
 unfolding numberAfter
-returns c = rw (sym (c .before .begins-with .ensures) ∙ not-true _ (c .if1 .taken))
+returns c = rw (was-false (c .before .begins-with .ensures) (c .if1 .taken))
 
 -- the line begins with the word
 begins :
     (c : tie.Else1) → let d = c .before .before .before .before in beginsWith (d .args .word .now) (d .args .line .now) ≡ true
-begins c = sym (c .before .begins-with .ensures) ∙ not-false _ (c .if1 .left)
+begins c = was-true (c .before .begins-with .ensures) (c .if1 .left)
 
 sub-number-of : tie.Need-sub-number-of
 sub-number-of c = not-longer _ _ (begins c)

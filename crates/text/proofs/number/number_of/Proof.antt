@@ -1,12 +1,12 @@
 -- `number_of` meets its contract. The invariant: the bytes so far are digits that make the number, which is not too large.
 use Prim.Native.Nat.{_-_}
 use native.Mathlib.Omega.{arith}
-use mathlib.Core.Path.{_≡_, sym, _∙_}
+use mathlib.Core.Path.{_≡_}
 use mathlib.Core.Bool.{true}
 use mathlib.Core.Logic.{⊎-elim}
 use borrow.Author.Needs.{needs}
-use borrow.Author.Tests.{not-true, not-false}
 use lib.ListN.{length, getD}
+use Rattle.laws.proofs.Booleans.{was-true, was-false}
 use Rattle.text.specs.Number.{isDigit}
 use Rattle.text.proofs.NumberLaws.{digit}
 use Rattle.text.proofs.NumberScan.{Scanned, scanned-none, empty, long, leading, one-digit, other-digit, no-digit, too-large, scanned-more, complete}
@@ -34,14 +34,14 @@ loop-holds c = scanned-none _ _
 returns-4 : tie.Need-returns-4 Inv-loop μ-loop
 returns-4 c =
     let l = c .before .before .before in
-    no-digit _ _ _ _ _ (l .before .loop .inv) (l .loop-test .taken) (sym (c .before .is-digit .ensures) ∙ not-true _ (c .if5 .taken))
+    no-digit _ _ _ _ _ (l .before .loop .inv) (l .loop-test .taken) (was-false (c .before .is-digit .ensures) (c .if5 .taken))
 
 -- the next byte is a digit
 next-digit :
     (c : tie.Else5 Inv-loop μ-loop)
     → let l = c .before .before .before in
     isDigit (getD (l .before .before .before .before .before .before .before .args .field .now) (l .before .loop .i) 0) ≡ true
-next-digit c = sym (c .before .is-digit .ensures) ∙ not-false _ (c .if5 .left)
+next-digit c = was-true (c .before .is-digit .ensures) (c .if5 .left)
 
 sub-more : tie.Need-sub-more Inv-loop μ-loop
 sub-more c = digit _ (next-digit (c .before)) .low
