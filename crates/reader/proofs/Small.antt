@@ -6,7 +6,7 @@ use mathlib.Core.List.{List}
 use lib.Dec.{eqb, ltb}
 use lib.ListN.{length}
 use Rattle.laws.proofs.CaseSplits.{by-cond}
-use Rattle.text.specs.Lines.{lineEnd, before, after}
+use Rattle.text.specs.Lines.{lineEnd, before, after, isEmpty}
 use Rattle.tasks.specs.declared.table.Table.{Table}
 use Rattle.tasks.specs.Limits.{maxTasks, maxTextLength}
 use Rattle.tasks.specs.Task.{inRange}
@@ -15,7 +15,7 @@ use Rattle.tasks.proofs.Small.{Below, below-done, below-refused}
 use Rattle.reader.specs.declared.names.Columns.{Columns}
 use Rattle.reader.specs.declared.Reading.{Reading}
 use Rattle.reader.specs.Names.{columnsOf, beginsWithNames}
-use Rattle.reader.specs.Reading.{refused, beginsWithValues, taskOf, ended, isEmpty, valueLines, reading}
+use Rattle.reader.specs.Reading.{refused, beginsWithValues, taskOf, ended, valueLines, reading}
 
 either : (t : Bool) (x y : Reading) → Below 6 (x .outcome) → Below 6 (y .outcome) → Below 6 (cond t x y .outcome)
 either t x y f g = by-cond (λ (r : Reading). Below 6 (r .outcome)) t (λ e. f) (λ e. g)

@@ -1,12 +1,12 @@
--- What the value line of a text s is where its reader stops: at a text that is not ended, at a line that is not three values, and by the three
+-- What the value line of a text s is where its reader stops: at a line that is not three values, at one that is not ended, and by the three
 -- values; and what it says of a text: `line-read`, `line-broken`.
 use Prim.Native.Nat.{ℕ, zero, suc, _+_, _^_, _≤_, _<_}
 use native.Mathlib.Omega.{arith}
 use mathlib.Core.Path.{_≡_, sym, ap, _∙_}
-use mathlib.Core.Bool.{Bool, true, false, cond, _&&_}
+use mathlib.Core.Bool.{Bool, true, false, cond, _&&_, and-false}
 use mathlib.Core.List.{List, [], _∷_}
 use lib.Dec.{eqb}
-use lib.ListN.{length, getD, take}
+use lib.ListN.{length, getD}
 use borrow.Author.Tests.{eqb-true}
 use Rattle.laws.proofs.CaseSplits.{by-cond, clash}
 use Rattle.laws.proofs.Booleans.{and-left}
@@ -15,7 +15,7 @@ use Rattle.text.specs.Lines.{lineEnd, has, before, after, field, fieldCount}
 use Rattle.text.specs.Number.{decimalFrom, decimal, isNumber}
 use Rattle.text.specs.Fields.{areThree, threeNumbers}
 use Rattle.text.specs.declared.fields.Numbers.the-variants as Numbers
-use Rattle.text.proofs.Scan.{here, hasnt-of, cut}
+use Rattle.text.proofs.Scan.{here, has-of, hasnt-of}
 use Rattle.text.proofs.NumberLaws.{no-limit}
 use Rattle.text.proofs.FieldLaws.{no-more}
 use Rattle.text.proofs.ThreeNumbers.{AreThree, three-are, three-are-not}
@@ -41,12 +41,13 @@ three-fields l t =
     let n : ℕ → Bool = λ i. isNumber 7 9999999 (field i l) in
     eqb-true (fieldCount l) 3 (and-left c (n 0) (and-left (c && n 0) (n 1) (and-left (c && n 0 && n 1) (n 2) t)))
 
-picked : (l : List ℕ) (x y z : ℕ) → AreThree 7 9999999 l x y z → (i : ℕ) → decimal (field i l) ≡ getD (x ∷ y ∷ z ∷ []) i 0
+picked :
+    (s : List ℕ) (x y z n : ℕ) → AreThree 7 9999999 s x y z n → (i : ℕ) → decimal (field i (before lineEnd s)) ≡ getD (x ∷ y ∷ z ∷ []) i 0
 unfolding decimal decimalFrom
-picked l x y z p zero = p .first
-picked l x y z p (suc zero) = p .second
-picked l x y z p (suc (suc zero)) = p .third
-picked l x y z p (suc (suc (suc i))) = ap decimal (no-more l (three-fields l (p .is)) i)
+picked s x y z n p zero = p .first
+picked s x y z n p (suc zero) = p .second
+picked s x y z n p (suc (suc zero)) = p .third
+picked s x y z n p (suc (suc (suc i))) = ap decimal (no-more (before lineEnd s) (three-fields (before lineEnd s) (p .are)) i)
 
 -- the task of three values
 abbrev task : Columns → (x y z : ℕ) → Task
@@ -57,27 +58,29 @@ task c x y z =
       deadline = getD (x ∷ y ∷ z ∷ []) (c .deadline) 0;
     }
 
--- the byte 10 was looked for, and r bytes stand before it
-module _ (c : Columns) (s : List ℕ) (r : ℕ) (e : r ≡ length (before lineEnd s)) where
-  pub not-ended : length s ≤ r → Broken ≡ valueLine c s
+module _ (c : Columns) (s : List ℕ) where
+  by-line :
+      valueLine c s
+      ≡ cond (has lineEnd s && areThree 7 9999999 (before lineEnd s)) (Read (taskOf c (before lineEnd s)) (length (before lineEnd s) + 1)) Broken
   unfolding valueLine beginsWithValues
-  not-ended h = rw (hasnt-of lineEnd s (rw e at h))
+  by-line = rw (three-values (before lineEnd s))
 
-  -- it is there, and so the line is
-  module _ (h : r < length s) where
-    by-line : valueLine c s ≡ cond (areThree 7 9999999 (take r s)) (Read (taskOf c (take r s)) (r + 1)) Broken
-    unfolding valueLine beginsWithValues
-    by-line = let k = cut lineEnd s r e h in rw (k .is, ← e, ← k .front, three-values (take r s))
+  pub not-values : threeNumbers 7 9999999 s ≡ Numbers.Broken → Broken ≡ valueLine c s
+  not-values b = sym (by-line ∙ rw (three-are-not 7 9999999 s b, and-false (has lineEnd s)))
 
-    pub not-values : threeNumbers 7 9999999 (take r s) ≡ Numbers.Broken → Broken ≡ valueLine c s
-    not-values b = sym (by-line ∙ rw (three-are-not 7 9999999 (take r s) b))
+  -- three numbers, the last of which ends at n
+  module _ (x y z n : ℕ) (t : threeNumbers 7 9999999 s ≡ Numbers.Three x y z n) where
+    pub not-ended : length s ≤ n → Broken ≡ valueLine c s
+    not-ended h =
+        let p = three-are 7 9999999 s x y z n t in
+        sym (by-line ∙ rw (hasnt-of lineEnd s (omega (arith, p .count))))
 
-    pub values : (x y z : ℕ) → threeNumbers 7 9999999 (take r s) ≡ Numbers.Three x y z → Read (task c x y z) (r + 1) ≡ valueLine c s
+    pub values : n < length s → Read (task c x y z) (n + 1) ≡ valueLine c s
     unfolding taskOf
-    values x y z t =
-        let p = three-are 7 9999999 (take r s) x y z t in
-        let q = picked (take r s) x y z p in
-        sym (by-line ∙ rw (p .is, q (c .period), q (c .budget), q (c .deadline)))
+    values h =
+        let p = three-are 7 9999999 s x y z n t in
+        let q = picked s x y z n p in
+        sym (by-line ∙ rw (has-of lineEnd s (omega (arith, p .count)), p .are, ← p .count, q (c .period), q (c .budget), q (c .deadline)))
 
 -- a value line that was read, and none
 pub record LineRead (c : Columns) (s : List ℕ) (k : Task) (n : ℕ) : Type 0 where

@@ -4,9 +4,9 @@ use Prim.Native.Nat.{ℕ, zero, suc, _+_, _-_, _≤_, _<_}
 use native.Mathlib.Omega.{arith}
 use mathlib.Core.Path.{_≡_, refl, sym, _∙_}
 use mathlib.Core.Bool.{true, false}
-use mathlib.Core.List.{List, [], _∷_}
+use mathlib.Core.List.{List}
 use lib.ListN.{length, set}
-use Rattle.laws.proofs.Parts.{from, from-length, empty}
+use Rattle.laws.proofs.Parts.{from, from-length}
 use Rattle.tasks.specs.declared.task.Task.{Task}
 use Rattle.tasks.specs.declared.table.Table.{Table}
 use Rattle.tasks.specs.Limits.{maxTasks}
@@ -16,7 +16,8 @@ use Rattle.tasks.specs.Table.{emptyTable, withTask}
 use Rattle.reader.specs.declared.names.Columns.{Columns}
 use Rattle.reader.specs.declared.values.ValueLine.the-variants.{Read, Broken}
 use Rattle.reader.specs.declared.Reading.{Reading}
-use Rattle.reader.specs.Reading.{refused, ended, isEmpty, valueLines}
+use Rattle.reader.specs.Reading.{refused, ended, valueLines}
+use Rattle.text.proofs.LineLaws.{no-bytes, some-bytes}
 use Rattle.reader.specs.Parts.{valueLine}
 use Rattle.reader.proofs.ValueLine.{line-read, line-broken}
 
@@ -29,15 +30,6 @@ pub record Reading-on (c : Columns) (w : Reading) (t : Table) (n : ℕ) (s : Lis
 pub begin : (c : Columns) (s : List ℕ) → Reading-on c (valueLines c maxTasks emptyTable s) emptyTable 0 s
 unfolding emptyTable
 begin c s = record { count = refl; within = omega arith; left = refl }
-
-no-bytes : (s : List ℕ) → length s ≤ 0 → isEmpty s ≡ true
-unfolding isEmpty
-no-bytes s h = rw (empty s h)
-
-pub some-bytes : (s : List ℕ) → 0 < length s → isEmpty s ≡ false
-unfolding isEmpty
-some-bytes [] h = absurd (omega arith)
-some-bytes (x ∷ s) h = refl
 
 module _ (c : Columns) (w : Reading) (t : Table) (n : ℕ) (s : List ℕ) (on : Reading-on c w t n s) where
   pub finish : length s ≤ 0 → ended t ≡ w

@@ -1,7 +1,7 @@
 -- A table read from text: document 01, "The table as text" and "Why a call is not carried out".
 use Prim.Native.Nat.{ℕ, zero, suc, _+_}
-use mathlib.Core.List.{List, [], _∷_}
-use mathlib.Core.Bool.{Bool, true, false, cond, not, _&&_}
+use mathlib.Core.List.{List}
+use mathlib.Core.Bool.{Bool, cond, not, _&&_}
 use lib.Dec.{eqb, ltb}
 use lib.ListN.{length}
 use Rattle.tasks.specs.declared.task.Task.{Task}
@@ -13,7 +13,7 @@ use Rattle.tasks.specs.Task.{inRange}
 use Rattle.tasks.specs.Table.{emptyTable, withTask}
 use Rattle.reader.specs.declared.names.Columns.{Columns}
 use Rattle.reader.specs.declared.Reading.{Reading}
-use Rattle.text.specs.Lines.{lineEnd, has, before, after, field, fieldCount}
+use Rattle.text.specs.Lines.{lineEnd, has, before, after, isEmpty, field, fieldCount}
 use Rattle.text.specs.Number.{decimal}
 use Rattle.reader.specs.Value.{isValue}
 use Rattle.reader.specs.Names.{columnsOf, beginsWithNames}
@@ -38,11 +38,6 @@ taskOf c l =
 -- what reading gives where the table t is read and nothing follows: "6. The table has no task.", or the table
 unfoldable pub ended : Table → Reading
 ended t = cond (eqb (t .count) 0) (refused noTask 0) (record { table = t; outcome = Done })
-
--- whether nothing is left of a text
-unfoldable pub isEmpty : List ℕ → Bool
-isEmpty [] = true
-isEmpty (x ∷ s) = false
 
 -- "Value lines go in turn, each through 3, 4, 5", and "After each line, reading goes on with the rest of the text": c has the columns, t the
 -- tasks so far, n is how many more a table can have, and s is the rest of the text

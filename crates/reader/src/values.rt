@@ -1,7 +1,6 @@
 // Value lines: three values, and the task that they make.
 use crate::names::Columns;
 use tasks::task::Task;
-use text::bytes;
 use text::fields;
 use text::fields::Numbers;
 ghost use mathlib.Core.Path.{_≡_};
@@ -41,17 +40,18 @@ fn value_at(column: usize, first: u32, second: u32, third: u32) -> u32
 pub fn value_line(text: &[u8], columns: Columns) -> ValueLine
     ensures { λ r. ⌜ r ≡ valueLine columns (now (text .entry)) ⌝ }
 {
-    let end = bytes::find(text, b'\n');
-    if text.len() <= end {
-        return ValueLine::Broken;
-    }
-    let Numbers::Three(first, second, third) = fields::three_numbers(
-        &text[..end],
-        MAX_DIGITS,
-        MAX_VALUE,
-    ) else {
+    let Numbers::Three {
+        first,
+        second,
+        third,
+        length,
+    } = fields::three_numbers(text, MAX_DIGITS, MAX_VALUE)
+    else {
         return ValueLine::Broken;
     };
+    if text.len() <= length {
+        return ValueLine::Broken;
+    }
     let period = value_at(columns.period, first, second, third);
     let budget = value_at(columns.budget, first, second, third);
     let deadline = value_at(columns.deadline, first, second, third);
@@ -61,6 +61,6 @@ pub fn value_line(text: &[u8], columns: Columns) -> ValueLine
             budget,
             deadline,
         },
-        length: end + 1,
+        length: length + 1,
     }
 }

@@ -1,13 +1,13 @@
 -- The example holds: antt computes what is printed for it.
 use mathlib.Core.Path.{_≡_, refl}
-use Rattle.text.specs.Lines.{has, before, after, inFirst, lines, unended, fieldCount, field}
+use Rattle.text.specs.Lines.{has, before, after, inFirst, lines, unended, fieldCount, field, isEmpty}
 use Rattle.text.specs.Words.{sameBytes, beginsWith}
 use Rattle.text.specs.Number.{isDigit, allDigits, leadingZero, wellFormed, decimalFrom, decimal, isNumber, numberOf, numberAfter, digitsOf, decimalText}
-use Rattle.text.specs.Fields.{areThree, threeNumbers}
+use Rattle.text.specs.Fields.{areThree}
 use Rattle.text.specs.Output.{furtherNumbers, numbersLine, refusedLine}
 use Rattle.reader.specs.Value.{isValue}
 use Rattle.reader.specs.Names.{columnIn, columnsIn, eachNamed, columnsOf, threeNames, beginsWithNames}
-use Rattle.reader.specs.Reading.{refused, threeValues, beginsWithValues, taskOf, ended, isEmpty, valueLines, reading}
+use Rattle.reader.specs.Reading.{refused, threeValues, beginsWithValues, taskOf, ended, valueLines, reading}
 use Rattle.machine.proofs.Computing.{computing}
 use Rattle.replay.specs.Calls.{joinOf, callOfTask, callOf, callsFrom, callsStart}
 use Rattle.replay.specs.Output.{badLine, reportLine, acceptedLine, outcomeLine, answerLine}
@@ -18,7 +18,7 @@ pub example-holds : printed exampleScript ≡ exampleOutput
 unfolding
     has before after inFirst lines unended fieldCount field sameBytes beginsWith
     isDigit allDigits leadingZero wellFormed decimalFrom decimal isNumber numberOf numberAfter digitsOf decimalText
-    areThree threeNumbers furtherNumbers numbersLine refusedLine
+    areThree furtherNumbers numbersLine refusedLine
     isValue columnIn columnsIn eachNamed columnsOf threeNames beginsWithNames
     refused threeValues beginsWithValues taskOf ended isEmpty valueLines reading computing
     joinOf callOfTask callOf callsFrom callsStart

@@ -8,12 +8,10 @@ use mathlib.Core.List.{List, [], _++_}
 use lib.ListN.{length, take, length-append}
 use lib.Seq.{length-take-le}
 use Rattle.laws.proofs.Parts.{past, from-length, empty}
-use Rattle.text.specs.Lines.{lineEnd, has, before, lines, unended}
+use Rattle.text.specs.Lines.{lineEnd, has, before, lines, unended, isEmpty}
 use Rattle.text.proofs.Scan.{cut, hasnt-of}
-use Rattle.text.proofs.LineLaws.{lines-more, lines-none, unended-more, unended-all}
+use Rattle.text.proofs.LineLaws.{lines-more, lines-none, unended-more, unended-all, some-bytes}
 use Rattle.text.proofs.Putting.{Partly, partly-none, partly-more, partly-last, partly-all}
-use Rattle.reader.specs.Reading.{isEmpty}
-use Rattle.reader.proofs.ValueLines.{some-bytes}
 use Rattle.machine.specs.Calls.{step}
 use Rattle.machine.specs.declared.machine.Machine.{Machine}
 use Rattle.machine.specs.declared.call.Call.{Call}

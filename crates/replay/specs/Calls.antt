@@ -4,14 +4,12 @@ use Prim.Native.Nat.{ℕ, _+_}
 use mathlib.Core.List.{List, [], _∷_}
 use mathlib.Core.Bool.{cond}
 use lib.ListN.{length, drop}
-use Rattle.text.specs.Lines.{lines}
+use Rattle.text.specs.Lines.{lines, field}
 use Rattle.text.specs.Words.{sameBytes, beginsWith}
-use Rattle.text.specs.Number.{numberAfter}
-use Rattle.text.specs.Fields.{threeNumbers}
+use Rattle.text.specs.Number.{decimal, numberAfter}
+use Rattle.text.specs.Fields.{areThree}
 use Rattle.text.specs.declared.number.Number.{Number}
 use Rattle.text.specs.declared.number.Number.the-variants as Number
-use Rattle.text.specs.declared.fields.Numbers.{Numbers}
-use Rattle.text.specs.declared.fields.Numbers.the-variants as Numbers
 use Rattle.machine.specs.declared.call.Call.{Call}
 use Rattle.machine.specs.declared.call.Call.the-variants.{Release, Finish, Slot, Join}
 use Rattle.replay.specs.Words.{releaseWord, finishWord, joinWord, slotWord, callsWord}
@@ -21,10 +19,12 @@ use Rattle.replay.specs.declared.calls.CallLine.the-variants.{Read, Bad}
 use Rattle.replay.specs.declared.calls.CallsStart.{CallsStart}
 use Rattle.replay.specs.declared.calls.CallsStart.the-variants.{Found, Missing}
 
--- the join of three numbers, if there are three: "T C D"
-unfoldable pub joinOf : Numbers → CallLine
-joinOf (Numbers.Three t c d) = Read (Join (record { period = t; budget = c; deadline = d }))
-joinOf Numbers.Broken = Bad
+-- the join of the fields "T C D", if they are three numbers
+unfoldable pub joinOf : List ℕ → CallLine
+joinOf f =
+    cond (areThree maxDigits maxNumber f)
+    (Read (Join (record { period = decimal (field 0 f); budget = decimal (field 1 f); deadline = decimal (field 2 f) })))
+    Bad
 
 -- the call of task i, if there is a number i; else what the line is otherwise
 unfoldable pub callOfTask : Number → (ℕ → Call) → CallLine → CallLine
@@ -37,7 +37,7 @@ callOf l =
     cond (sameBytes l slotWord) (Read Slot)
     (callOfTask (numberAfter maxDigits maxNumber releaseWord l) Release
     (callOfTask (numberAfter maxDigits maxNumber finishWord l) Finish
-    (cond (beginsWith joinWord l) (joinOf (threeNumbers maxDigits maxNumber (drop (length joinWord) l))) Bad)))
+    (cond (beginsWith joinWord l) (joinOf (drop (length joinWord) l)) Bad)))
 
 -- where the first line `CALLS` stands among lines of which the first has the number n and begins at a place: the table ends there, the calls
 -- start after it, and the first call has the number of the line after. Where no line is `CALLS`, it is missing on the line after the last

@@ -13,7 +13,7 @@ use Rattle.machine.specs.declared.answer.Report.{Report}
 use Rattle.machine.specs.Mask.{mask}
 use Rattle.replay.specs.Words.{doneWord, badLineWord}
 
--- "A line that is no call prints `BAD LINE n`", and so does a line that is not the `CORES m` or the `CALLS` that it must be
+-- "A line that is no call prints `BAD LINE n`", and so does a first line that is not `CORES m`, and the place where `CALLS` is missing
 unfoldable pub badLine : ℕ → List ℕ
 badLine n = badLineWord ++ numbersLine (n ∷ [])
 
@@ -37,15 +37,15 @@ outcomeLine (Refused number place) call r = refusedLine number
 unfoldable pub answerLine : Call → Answer → List ℕ
 answerLine call a = outcomeLine (a .outcome) call (a .report)
 
--- the most bytes of a line `REFUSED n` or `BAD LINE n`, and more
+-- bytes that are enough for a line `REFUSED n` or `BAD LINE n`
 abbrev pub refusalRoom : ℕ
 refusalRoom = 32
 
--- the most bytes of the line of an answer: four numbers of ten digits, and a byte after each
+-- bytes that are enough for the line of an answer: four numbers of ten digits, and a byte after each
 abbrev pub answerRoom : ℕ
 answerRoom = 44
 
--- the most bytes of the output for each byte of the calls: the line of a call has at least 5 bytes, and its answer's at most 44
+-- bytes of the output that are enough for each byte of the calls: the line of a call has at least 5 bytes, and its answer's at most 44
 abbrev pub callRoom : ℕ
 callRoom = 9
 

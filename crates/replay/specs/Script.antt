@@ -4,12 +4,12 @@ use mathlib.Core.List.{List, [], _∷_, _++_}
 use mathlib.Core.Bool.{cond}
 use lib.Dec.{ltb}
 use lib.ListN.{length, take, drop}
-use Rattle.text.specs.Lines.{lineEnd, has, before, after, lines, unended}
+use Rattle.text.specs.Lines.{lineEnd, has, before, after, lines, unended, isEmpty}
 use Rattle.text.specs.Number.{numberAfter}
 use Rattle.text.specs.Output.{refusedLine}
 use Rattle.text.specs.declared.number.Number.{Number}
 use Rattle.text.specs.declared.number.Number.the-variants as Number
-use Rattle.reader.specs.Reading.{isEmpty, reading}
+use Rattle.reader.specs.Reading.{reading}
 use Rattle.tasks.specs.Refusals.{textTooLong}
 use Rattle.tasks.specs.declared.outcome.Outcome.{Outcome}
 use Rattle.tasks.specs.declared.outcome.Outcome.the-variants.{Done, Refused}
@@ -36,13 +36,13 @@ onCall (Line.Read call) played bad = played call
 onCall Line.Bad played bad = bad
 
 -- the lines of answers to the calls of some lines and what stands unended after them: the first line has the number n in the whole script, and
--- the first call gets the machine m. "A line that is no call prints `BAD LINE n` .. and ends the run"
+-- the first call gets the machine m. "A line that is no call prints `BAD LINE n` .. and ends the run", and so does an unended last line
 unfoldable pub answers : Machine → (n : ℕ) → List (List ℕ) → List ℕ → List ℕ
 answers m n [] rest = cond (isEmpty rest) [] (badLine n)
 answers m n (l ∷ ls) rest =
     onCall (callOf l) (λ call. answerLine call (step m call) ++ answers (step m call .machine) (n + 1) ls rest) (badLine n)
 
--- after a start, which refuses m: "A refused table or m prints `REFUSED n` alone"
+-- after a start, which may refuse m: "A refused table or m prints `REFUSED n` alone"
 unfoldable pub printedAfterStart : Outcome → Machine → (n : ℕ) → (calls : List ℕ) → List ℕ
 printedAfterStart Done m n calls = answers m n (lines calls) (unended calls)
 printedAfterStart (Refused number place) m n calls = refusedLine number
@@ -67,7 +67,7 @@ unfoldable pub printedAfterFirst : Number → (s : List ℕ) → List ℕ
 printedAfterFirst (Number.Read cores) s = printedAfterCores (callsStart s) cores s
 printedAfterFirst Number.Broken s = badLine 1
 
--- "more than 65,536 bytes is `REFUSED 1` alone"
+-- what is printed for a script: "more than 65,536 bytes is `REFUSED 1` alone", and a script without an ended first line is `BAD LINE 1`
 unfoldable pub printed : List ℕ → List ℕ
 printed s =
     cond (ltb maxScriptLength (length s)) (refusedLine textTooLong)

@@ -73,13 +73,19 @@ pub fn call_line(line: &[u8]) -> CallLine
     if !bytes::begins_with(line, b"JOIN ") {
         return CallLine::Bad;
     }
-    let Numbers::Three(period, budget, deadline) = fields::three_numbers(
-        &line[5..],
-        MAX_DIGITS,
-        MAX_NUMBER,
-    ) else {
+    let fields = &line[5..];
+    let Numbers::Three {
+        first: period,
+        second: budget,
+        third: deadline,
+        length,
+    } = fields::three_numbers(fields, MAX_DIGITS, MAX_NUMBER)
+    else {
         return CallLine::Bad;
     };
+    if length < fields.len() {
+        return CallLine::Bad;
+    }
     CallLine::Read(Call::Join(Task {
         period,
         budget,

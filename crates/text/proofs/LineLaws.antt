@@ -1,6 +1,6 @@
 -- Laws of `lines` and `unended`: of a text that has a byte 10, and of one that has none; how many bytes the lines have (`total-lines`); and that
 -- nothing of a text is lost (`lines-whole`).
-use Prim.Native.Nat.{ℕ, suc, _+_, _≤_}
+use Prim.Native.Nat.{ℕ, suc, _+_, _≤_, _<_}
 use native.Mathlib.Omega.{arith}
 use mathlib.Core.Path.{_≡_, refl, sym, ap}
 use mathlib.Core.Bool.{true, false, false≢true}
@@ -9,7 +9,8 @@ use borrow.Author.Tests.{eqb-true}
 use lib.Dec.{eqb}
 use lib.ListN.{length}
 use Rattle.laws.proofs.CaseSplits.{by-test}
-use Rattle.text.specs.Lines.{lineEnd, has, before, after, inFirst, lines, unended}
+use Rattle.laws.proofs.Parts.{empty}
+use Rattle.text.specs.Lines.{lineEnd, has, before, after, isEmpty, inFirst, lines, unended}
 
 pub lines-more : (s : List ℕ) → has lineEnd s ≡ true → lines s ≡ before lineEnd s ∷ lines (after lineEnd s)
 unfolding has before after lines inFirst
@@ -62,3 +63,13 @@ lines-whole (x ∷ s) =
     by-test (has lineEnd s)
     (λ h. rw (e, h, lines-more s h) (ap (λ (r : List ℕ). x ∷ r) (rw (lines-more s h) at (lines-whole s))))
     (λ h. rw (e, h, lines-none s h)))
+
+-- whether a text is empty, by its length
+pub no-bytes : (s : List ℕ) → length s ≤ 0 → isEmpty s ≡ true
+unfolding isEmpty
+no-bytes s h = rw (empty s h)
+
+pub some-bytes : (s : List ℕ) → 0 < length s → isEmpty s ≡ false
+unfolding isEmpty
+some-bytes [] h = absurd (omega arith)
+some-bytes (x ∷ s) h = refl

@@ -1,4 +1,4 @@
--- The scan of a number's digits: its invariant `Scanned`, and what `numberOf` is at each way out of the scan.
+-- The scan of a number's digits: its invariant `Scanned`, and whether the field is a number at each way out of the scan.
 use Prim.Native.Nat.{ℕ, _+_, _-_, _*_, _≤_, _<_}
 use native.Mathlib.Numerals.{add-one}
 use native.Mathlib.Omega.{arith}
@@ -9,8 +9,8 @@ use borrow.Author.Tests.{lt-ltb, le-ltb, le-leb, lt-leb, ne-eqb}
 use lib.Dec.{eqb, leb}
 use lib.ListN.{length, getD, drop, drop-of-length-le}
 use lib.Seq.{drop-cons}
-use Rattle.text.specs.Number.{isDigit, allDigits, leadingZero, wellFormed, decimalFrom, decimal, isNumber, numberOf}
-use Rattle.text.specs.declared.number.Number.the-variants.{Read, Broken}
+use Rattle.text.specs.Number.{isDigit, allDigits, leadingZero, wellFormed, decimalFrom, decimal, isNumber}
+use Rattle.text.proofs.NumberLaws.{Numbered}
 
 -- the first i bytes of f are digits that make n, which is not too large
 pub record Scanned (largest : ℕ) (f : List ℕ) (n i : ℕ) : Type 0 where
@@ -56,47 +56,42 @@ module _ (largest : ℕ) (f : List ℕ) (n i : ℕ) (p : Scanned largest f n i) 
       }
 
 module _ (k largest : ℕ) (f : List ℕ) where
-  -- what is no number
-  broken : isNumber k largest f ≡ false → Broken ≡ numberOf k largest f
-  unfolding numberOf
-  broken e = rw e
-
-  ill-formed : wellFormed k f ≡ false → Broken ≡ numberOf k largest f
+  ill-formed : wellFormed k f ≡ false → isNumber k largest f ≡ false
   unfolding isNumber
-  ill-formed e = broken (rw e)
+  ill-formed e = rw e
 
-  pub empty : length f ≡ 0 → Broken ≡ numberOf k largest f
+  pub empty : length f ≡ 0 → isNumber k largest f ≡ false
   unfolding wellFormed
   empty z = ill-formed (rw z)
 
-  pub long : k < length f → Broken ≡ numberOf k largest f
+  pub long : k < length f → isNumber k largest f ≡ false
   unfolding wellFormed
   long l = ill-formed (rw (lt-leb (length f) k l, and-false (leb 1 (length f))))
 
-  pub leading : getD f 0 0 ≡ 48 → 1 < length f → Broken ≡ numberOf k largest f
+  pub leading : getD f 0 0 ≡ 48 → 1 < length f → isNumber k largest f ≡ false
   unfolding wellFormed leadingZero
   leading z l = ill-formed (rw (z, lt-ltb 1 (length f) l, and-false (leb 1 (length f) && leb (length f) k)))
 
   module _ (n i : ℕ) (p : Scanned largest f n i) where
     -- what stops the scan at a byte
     module _ (h : i < length f) where
-      pub no-digit : isDigit (getD f i 0) ≡ false → Broken ≡ numberOf k largest f
+      pub no-digit : isDigit (getD f i 0) ≡ false → isNumber k largest f ≡ false
       unfolding wellFormed allDigits
       no-digit d =
           let e : allDigits f ≡ false = p .digits ∙ rw (drop-cons f i 0 h, d) in
           ill-formed (rw (e, and-false (leb 1 (length f) && leb (length f) k && not (leadingZero f))))
 
-      pub too-large : largest < n * 10 + (getD f i 0 - 48) → Broken ≡ numberOf k largest f
+      pub too-large : largest < n * 10 + (getD f i 0 - 48) → isNumber k largest f ≡ false
       unfolding isNumber
       too-large l =
           let m = n * 10 + (getD f i 0 - 48) in
           let e = lt-leb (decimal f) largest (rw (value-is largest f n i p h) (omega (arith, grows m (drop (i + 1) f)))) in
-          broken (rw (e, and-false (wellFormed k f)))
+          rw (e, and-false (wellFormed k f))
 
     -- the scan is at the end
-    pub complete : length f ≤ i → 1 ≤ length f → length f ≤ k → leadingZero f ≡ false → Read n ≡ numberOf k largest f
-    unfolding allDigits decimalFrom wellFormed isNumber numberOf
+    pub complete : length f ≤ i → 1 ≤ length f → length f ≤ k → leadingZero f ≡ false → Numbered k largest f n
+    unfolding allDigits decimalFrom wellFormed isNumber
     complete h l₁ l₂ z =
         let e : allDigits f ≡ true = p .digits ∙ rw (drop-of-length-le f h) in
         let v : decimal f ≡ n = p .value ∙ rw (drop-of-length-le f h) in
-        rw (le-leb 1 (length f) l₁, le-leb (length f) k l₂, z, e, v, le-leb n largest (p .small))
+        record { is = rw (le-leb 1 (length f) l₁, le-leb (length f) k l₂, z, e, v, le-leb n largest (p .small)); value = v }

@@ -1,15 +1,16 @@
 -- Laws of `has`, `before` and `after`. Others cite `here` (a byte is in a text: the text in three parts), `gone` (it is not), and `Passed`
--- with its laws (a scan has passed the first bytes of a text and not met it).
+-- with its laws (a scan has passed the first bytes of a text and not met it), and `inner` and `outer` (which of two bytes comes first).
 use Prim.Native.Nat.{ℕ, suc, _+_, _≤_, _<_}
 use native.Mathlib.Nat.{lt-irrefl, not-le-of-lt}
 use native.Mathlib.Numerals.{add-one}
 use native.Mathlib.Omega.{arith}
 use mathlib.Core.Path.{_≡_, refl, sym, ap, _∙_}
-use mathlib.Core.Bool.{true, false, false≢true}
+use mathlib.Core.Bool.{true, false, _||_, false≢true}
+use mathlib.Core.Logic.{_⊎_, ⊎-elim}
 use mathlib.Core.List.{List, [], _∷_, _++_, append-nil}
 use lib.Dec.{eqb}
 use lib.ListN.{length, getD, take, drop, length-append, drop-of-length-le}
-use lib.Seq.{drop-cons, take-suc, length-take-le, take-append-seam, drop-append-add, append-snoc}
+use lib.Seq.{drop-cons, take-suc, length-take-le, take-all, getD-at, take-append-seam, drop-append-add, append-snoc}
 use borrow.Author.Tests.{eq-eqb, ne-eqb, eqb-true}
 use Rattle.laws.proofs.CaseSplits.{by-test}
 use Rattle.laws.proofs.Parts.{past, from-drop}
@@ -90,6 +91,18 @@ passed-more b s i p h n =
           (sym (append-snoc (take i s) (getD s i 0) (before b (drop (suc i) s))));
     }
 
+-- the scan is at another byte, which is then one of those before b
+pub record Other (b : ℕ) (s : List ℕ) (i : ℕ) : Type 0 where
+  pub inside : i < length (before b s)
+  pub same : getD (before b s) i 0 ≡ getD s i 0
+
+pub at-other : (b : ℕ) (s : List ℕ) (i : ℕ) → Passed b s i → i < length s → (getD s i 0 ≡ b → ⊥) → Other b s i
+at-other b s i p h n =
+    let r = before b (drop (suc i) s) in
+    let e : before b s ≡ take i s ++ getD s i 0 ∷ r = p .front ∙ rw (drop-cons s i 0 h) (rw (before-other b (getD s i 0) (drop (suc i) s) n)) in
+    let l = length-take-le i s (p .within) in
+    record { inside = rw e (simp length-append (omega (arith, l))); same = rw e (getD-at (take i s) (getD s i 0) r 0 i l) }
+
 -- where the scan meets b
 pub record Met (b : ℕ) (s : List ℕ) (i : ℕ) : Type 0 where
   pub is : has b s ≡ true
@@ -114,12 +127,36 @@ missed b s i p h = p .there ∙ rw (drop-of-length-le s h)
 pub missed-count : (b : ℕ) (s : List ℕ) (i : ℕ) → Passed b s i → length s ≤ i → length (before b s) ≡ i
 missed-count b s i p h = omega (arith, ap length (gone b s (missed b s i p h)))
 
+-- where it stops, at b or at the end: what stands before b is what was passed
+pub stopped :
+    (b : ℕ) (s : List ℕ) (i : ℕ) → Passed b s i → (length s ≤ i) ⊎ ((i < length s) × (getD s i 0 ≡ b))
+    → (before b s ≡ take i s) × (length (before b s) ≡ i)
+stopped b s i p =
+    ⊎-elim
+    (λ h. (gone b s (missed b s i p h) ∙ sym (take-all i s h), missed-count b s i p h))
+    (λ h. let m = met b s i p (h .0) (h .1) in (m .front, m .count))
+
 -- by how many bytes stand before b: fewer than there are, or all
 pub has-of : (b : ℕ) (s : List ℕ) → length (before b s) < length s → has b s ≡ true
 has-of b s h = by-test (has b s) (λ e. e) (λ e. absurd (lt-irrefl (length s) (rw (gone b s e) at h)))
 
 pub hasnt-of : (b : ℕ) (s : List ℕ) → length s ≤ length (before b s) → has b s ≡ false
 hasnt-of b s h = by-test (has b s) (λ e. absurd (not-le-of-lt (here b s e .within) h)) (λ e. e)
+
+-- a byte of two texts put together
+has-append : (b : ℕ) (f g : List ℕ) → has b (f ++ g) ≡ (has b f || has b g)
+unfolding has
+has-append b [] g = refl
+has-append b (x ∷ f) g = by-test (eqb x b) (λ e. rw e) (λ e. rw e (has-append b f g))
+
+-- a byte e that is not before the first b is after it
+pub has-after : (b e : ℕ) (s : List ℕ) → eqb b e ≡ false → has b s ≡ true → has e s ≡ true → has e (before b s) ≡ false → has e (after b s) ≡ true
+unfolding has
+has-after b e s n i h f =
+    sym (ap (has e) (here b s i .whole) ∙ has-append e (before b s) (b ∷ after b s) ∙ rw (f, n)) ∙ h
+
+pub before-fits : (b : ℕ) (s : List ℕ) → length (before b s) ≤ length s
+before-fits b s = by-test (has b s) (λ h. omega (arith, here b s h .within)) (λ h. omega (arith, ap length (gone b s h)))
 
 -- the parts of a slice on either side of a byte that was found at r, as the code has them
 pub record Cut (b : ℕ) (s : List ℕ) (r : ℕ) : Type 0 where
@@ -135,3 +172,32 @@ cut b s r e h =
       front = rw e (here b s i .front);
       rest = from-drop s (r + 1) ∙ rw e (here b s i .rest);
     }
+
+-- the first b of a text stands before its first e, which is another byte
+pub record Inner (b e : ℕ) (s : List ℕ) : Type 0 where
+  pub there : has b s ≡ true
+  pub first : before b s ≡ before b (before e s)
+  pub rest : before e (after b s) ≡ after b (before e s)
+
+module _ (b e : ℕ) (ne : b ≡ e → ⊥) where
+  pub inner : (s : List ℕ) → has b (before e s) ≡ true → Inner b e s
+  unfolding has before after
+  inner [] h = absurd (false≢true h)
+  inner (x ∷ s) h =
+      by-test (eqb x e)
+      (λ p. absurd (false≢true (rw p at h)))
+      (λ p.
+      by-test (eqb x b)
+      (λ q. record { there = rw q; first = rw (p, q); rest = rw (p, q) })
+      (λ q. let i = inner s (rw (p, q) at h) in record { there = rw (q, i .there); first = rw (p, q, i .first); rest = rw (p, q, i .rest) }))
+
+  -- or after it
+  pub outer : (s : List ℕ) → has b s ≡ true → has b (before e s) ≡ false → has e (before b s) ≡ true
+  unfolding has before
+  outer [] h n = absurd (false≢true h)
+  outer (x ∷ s) h n =
+      by-test (eqb x b)
+      (λ q.
+      let p : eqb x e ≡ false = ne-eqb x e (λ same. ne (sym (eqb-true x b q) ∙ same)) in
+      absurd (false≢true (sym (rw (p, q) at n))))
+      (λ q. by-test (eqb x e) (λ p. rw (q, p)) (λ p. rw (q, p) (outer s (rw q at h) (rw (p, q) at n))))

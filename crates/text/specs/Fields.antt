@@ -4,14 +4,14 @@ use mathlib.Core.List.{List}
 use mathlib.Core.Bool.{Bool, cond, _&&_}
 use lib.Dec.{eqb}
 use lib.ListN.{length}
-use Rattle.text.specs.Lines.{fieldCount, field}
+use Rattle.text.specs.Lines.{lineEnd, before, fieldCount, field}
 use Rattle.text.specs.Number.{isNumber, decimal}
 use Rattle.text.specs.declared.fields.Fields.{Fields}
 use Rattle.text.specs.declared.fields.Fields.the-variants as Fields
 use Rattle.text.specs.declared.fields.Numbers.{Numbers}
 use Rattle.text.specs.declared.fields.Numbers.the-variants as Numbers
 
--- where the first and the second field of a line of three end, counted in bytes from the line's start
+-- where the first and the second field of a line of three end, counted in bytes from the line's start; any other line is Other
 unfoldable pub threeFields : List ℕ → Fields
 threeFields l =
     cond (eqb (fieldCount l) 3) (Fields.Three (length (field 0 l)) (length (field 0 l) + 1 + length (field 1 l))) Fields.Other
@@ -21,7 +21,9 @@ unfoldable pub areThree : (digits largest : ℕ) → List ℕ → Bool
 areThree digits largest l =
     eqb (fieldCount l) 3 && isNumber digits largest (field 0 l) && isNumber digits largest (field 1 l) && isNumber digits largest (field 2 l)
 
--- the three numbers that a line is
+-- the three numbers that the first line of a text is, and how many bytes the line has: without its byte 10, or all of the text where there is none;
+-- a line that is not three numbers is Broken
 unfoldable pub threeNumbers : (digits largest : ℕ) → List ℕ → Numbers
-threeNumbers digits largest l =
-    cond (areThree digits largest l) (Numbers.Three (decimal (field 0 l)) (decimal (field 1 l)) (decimal (field 2 l))) Numbers.Broken
+threeNumbers digits largest s =
+    let l = before lineEnd s in
+    cond (areThree digits largest l) (Numbers.Three (decimal (field 0 l)) (decimal (field 1 l)) (decimal (field 2 l)) (length l)) Numbers.Broken

@@ -1,7 +1,7 @@
--- Lines of a text and fields of a line: document 01, "The table as text".
+-- Lines of a text and fields of a line: document 01, "The table as text"; for all lines of a text docs/HANDBOOK.md, "Replaying calls".
 use Prim.Native.Nat.{ℕ, zero, suc}
 use mathlib.Core.List.{List, [], _∷_}
-use mathlib.Core.Bool.{Bool, false, cond, _||_}
+use mathlib.Core.Bool.{Bool, true, false, cond, _||_}
 use lib.Dec.{eqb}
 
 -- "each line ends with one byte 10"
@@ -27,17 +27,22 @@ unfoldable pub after : ℕ → List ℕ → List ℕ
 after b [] = []
 after b (x ∷ s) = cond (eqb x b) s (after b s)
 
+-- whether nothing is left of a text
+unfoldable pub isEmpty : List ℕ → Bool
+isEmpty [] = true
+isEmpty (x ∷ s) = false
+
 -- a byte put before the first of some lines: where no line follows, the byte is in none
 unfoldable pub inFirst : ℕ → List (List ℕ) → List (List ℕ)
 inFirst x [] = []
 inFirst x (l ∷ ls) = (x ∷ l) ∷ ls
 
--- the lines of a text, each without its byte 10
+-- the lines of a text, each without its byte 10; what stands after the last byte 10 is in none
 unfoldable pub lines : List ℕ → List (List ℕ)
 lines [] = []
 lines (x ∷ s) = cond (eqb x lineEnd) ([] ∷ lines s) (inFirst x (lines s))
 
--- what stands after the last byte 10: no line, as it is not ended
+-- what stands after the last byte 10, or all of the text where there is none: no line, as it is not ended
 unfoldable pub unended : List ℕ → List ℕ
 unended [] = []
 unended (x ∷ s) = cond (has lineEnd (x ∷ s)) (unended s) (x ∷ s)

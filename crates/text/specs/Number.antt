@@ -1,12 +1,15 @@
--- Numbers in base ten: the number that a text is, and the text of a number.
+-- Numbers in base ten: the number that a text is (document 01, "The table as text"), and the text of a number.
 use Prim.Native.Nat.{ℕ, zero, suc, _+_, _-_, _*_, _/_, _%_}
 use mathlib.Core.List.{List, [], _∷_, _++_}
 use mathlib.Core.Bool.{Bool, true, cond, not, _&&_}
 use lib.Dec.{eqb, leb, ltb}
 use lib.ListN.{length, getD, drop}
 use Rattle.text.specs.Words.{beginsWith}
+use Rattle.text.specs.Lines.{before}
 use Rattle.text.specs.declared.number.Number.{Number}
 use Rattle.text.specs.declared.number.Number.the-variants.{Read, Broken}
+use Rattle.text.specs.declared.number.Before.{Before}
+use Rattle.text.specs.declared.number.Before.the-variants as Before
 
 -- whether a byte is one of the ten digits, 48 for 0 to 57 for 9
 unfoldable pub isDigit : ℕ → Bool
@@ -38,11 +41,16 @@ decimal f = decimalFrom 0 f
 unfoldable pub isNumber : (digits largest : ℕ) → List ℕ → Bool
 isNumber digits largest f = wellFormed digits f && leb (decimal f) largest
 
--- the number that a field is
+-- the number that a field is, or Broken where it is none
 unfoldable pub numberOf : (digits largest : ℕ) → List ℕ → Number
 numberOf digits largest f = cond (isNumber digits largest f) (Read (decimal f)) Broken
 
--- the number of a line that is a word, given first, and a number: as "CORES m", where the word has its space
+-- the number that stands before the first byte b of a text, or is all of it where there is no b, and how many bytes it has; or Broken
+unfoldable pub numberUpTo : (digits largest b : ℕ) → List ℕ → Before
+numberUpTo digits largest b s =
+    cond (isNumber digits largest (before b s)) (Before.Read (decimal (before b s)) (length (before b s))) Before.Broken
+
+-- the number of a line that is a word, given first, and a number, as `CORES m` of a script, where the word has its space; Broken of any other line
 unfoldable pub numberAfter : (digits largest : ℕ) → List ℕ → List ℕ → Number
 numberAfter digits largest w l = cond (beginsWith w l) (numberOf digits largest (drop (length w) l)) Broken
 

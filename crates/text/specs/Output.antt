@@ -1,4 +1,4 @@
--- A text put together in an array, one part after the other, and lines of numbers.
+-- A text put together in an array, one part after the other, and lines of numbers (document 01, "The table as text").
 use Prim.Native.Nat.{ℕ, _+_, min, max}
 use mathlib.Core.Path.{_≡_}
 use mathlib.Core.List.{List, [], _∷_, _++_}
@@ -11,8 +11,8 @@ use Rattle.text.specs.Number.{decimalText}
 unfoldable pub overwritten : (array : List ℕ) (place : ℕ) (text : List ℕ) → List ℕ
 overwritten array place text = sets array place text
 
--- how many bytes are used in an array of a size, once so many more were put: where they have no room it is one more than the size, or what it
--- was where it was above the size already; and so it stays whatever is put later
+-- how many bytes of an array are used, once so many more were put. Above the array's size it marks that some had no room: one more than the size,
+-- or what it was where it was above the size already; and so it stays whatever is put later
 unfoldable pub usedAfter : (size used more : ℕ) → ℕ
 usedAfter size used more = min (used + more) (max used (size + 1))
 
@@ -31,7 +31,7 @@ unfoldable pub furtherNumbers : List ℕ → List ℕ
 furtherNumbers [] = lineEnd ∷ []
 furtherNumbers (n ∷ ns) = space ∷ decimalText n ++ furtherNumbers ns
 
--- a line of numbers, "separated by one space"; "Each printed line ends with byte 10"
+-- a line of numbers, with a space between them as in document 01's examples; "Each printed line ends with byte 10"
 unfoldable pub numbersLine : List ℕ → List ℕ
 numbersLine [] = lineEnd ∷ []
 numbersLine (n ∷ ns) = decimalText n ++ furtherNumbers ns

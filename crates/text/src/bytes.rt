@@ -18,23 +18,6 @@ pub fn find(text: &[u8], byte: u8) -> usize
     i
 }
 
-// Whether a text begins with a word.
-pub fn begins_with(text: &[u8], word: &[u8]) -> bool
-    ensures { λ r. ⌜ r ≡ beginsWith (now (word .entry)) (now (text .entry)) ⌝ }
-{
-    if text.len() < word.len() {
-        return false;
-    }
-    let mut i: usize = 0;
-    while i < word.len() {
-        if text[i] != word[i] {
-            return false;
-        }
-        i += 1;
-    }
-    true
-}
-
 // Whether two texts have the same bytes.
 pub fn same(a: &[u8], b: &[u8]) -> bool
     ensures { λ r. ⌜ r ≡ sameBytes (now (a .entry)) (now (b .entry)) ⌝ }
@@ -42,5 +25,23 @@ pub fn same(a: &[u8], b: &[u8]) -> bool
     if a.len() != b.len() {
         return false;
     }
-    begins_with(a, b)
+    let mut i: usize = 0;
+    while i < a.len() {
+        if a[i] != b[i] {
+            return false;
+        }
+        i += 1;
+    }
+    true
+}
+
+// Whether a text begins with a word.
+pub fn begins_with(text: &[u8], word: &[u8]) -> bool
+    ensures { λ r. ⌜ r ≡ beginsWith (now (word .entry)) (now (text .entry)) ⌝ }
+{
+    let length = word.len();
+    if text.len() < length {
+        return false;
+    }
+    same(&text[..length], word)
 }

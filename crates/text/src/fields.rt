@@ -1,7 +1,7 @@
-// Lines of three fields, with one space between them. A line stands here without its byte 10.
+// Lines of three fields, with one space between them.
 use crate::bytes;
 use crate::number;
-use crate::number::Number;
+use crate::number::Before;
 ghost use mathlib.Core.Path.{_≡_};
 ghost use Rattle.text.specs.Fields.{threeFields, threeNumbers};
 
@@ -11,13 +11,18 @@ pub enum Fields {
     Other,
 }
 
-// The numbers of three fields, in their order.
+// The numbers of a line of three fields, in their order. The line is `length` bytes long.
 pub enum Numbers {
-    Three(u32, u32, u32),
+    Three {
+        first: u32,
+        second: u32,
+        third: u32,
+        length: usize,
+    },
     Broken,
 }
 
-// The fields of a line of three.
+// The fields of a line of three, which stands here without its byte 10.
 pub fn three_fields(line: &[u8]) -> Fields
     ensures { λ r. ⌜ r ≡ threeFields (now (line .entry)) ⌝ }
 {
@@ -40,21 +45,40 @@ pub fn three_fields(line: &[u8]) -> Fields
     }
 }
 
-// The numbers that the fields of a line of three are.
-pub fn three_numbers(line: &[u8], digits: usize, largest: u32) -> Numbers
-    ensures { λ r. ⌜ r ≡ threeNumbers digits largest (now (line .entry)) ⌝ }
+// The numbers of the first line of a text, which ends before the first byte 10 or where the text does.
+pub fn three_numbers(text: &[u8], digits: usize, largest: u32) -> Numbers
+    ensures { λ r. ⌜ r ≡ threeNumbers digits largest (now (text .entry)) ⌝ }
 {
-    let Fields::Three { first, second } = three_fields(line) else {
+    let Before::Read { number: a, length } = number::number_up_to(text, b' ', digits, largest)
+    else {
         return Numbers::Broken;
     };
-    let Number::Read(a) = number::number_of(&line[..first], digits, largest) else {
+    if text.len() <= length {
+        return Numbers::Broken;
+    }
+    let rest = &text[length + 1..];
+    let Before::Read {
+        number: b,
+        length: more,
+    } = number::number_up_to(rest, b' ', digits, largest)
+    else {
         return Numbers::Broken;
     };
-    let Number::Read(b) = number::number_of(&line[first + 1..second], digits, largest) else {
+    if rest.len() <= more {
+        return Numbers::Broken;
+    }
+    let last = &rest[more + 1..];
+    let Before::Read {
+        number: c,
+        length: most,
+    } = number::number_up_to(last, b'\n', digits, largest)
+    else {
         return Numbers::Broken;
     };
-    let Number::Read(c) = number::number_of(&line[second + 1..], digits, largest) else {
-        return Numbers::Broken;
-    };
-    Numbers::Three(a, b, c)
+    Numbers::Three {
+        first: a,
+        second: b,
+        third: c,
+        length: length + 1 + more + 1 + most,
+    }
 }

@@ -1,10 +1,16 @@
 // Numbers of a text, in base ten, with a limit of digits and a largest value.
 use crate::bytes;
 ghost use mathlib.Core.Path.{_≡_};
-ghost use Rattle.text.specs.Number.{isDigit, numberOf, numberAfter};
+ghost use Rattle.text.specs.Number.{isDigit, numberOf, numberUpTo, numberAfter};
 
 pub enum Number {
     Read(u32),
+    Broken,
+}
+
+// A number that is `length` bytes long, at the start of a text.
+pub enum Before {
+    Read { number: u32, length: usize },
     Broken,
 }
 
@@ -18,33 +24,50 @@ fn is_digit(byte: u8) -> bool
     byte <= b'9'
 }
 
+// The number that stands before the first byte `end` of a text, or is all of the text where there is none.
+pub fn number_up_to(text: &[u8], end: u8, digits: usize, largest: u32) -> Before
+    ensures { λ r. ⌜ r ≡ numberUpTo digits largest end (now (text .entry)) ⌝ }
+{
+    let mut number: u32 = 0;
+    let mut i: usize = 0;
+    while i < text.len() {
+        let byte = text[i];
+        if byte == end {
+            break;
+        }
+        if !is_digit(byte) {
+            return Before::Broken;
+        }
+        let more = number as u64 * 10 + (byte - b'0') as u64;
+        if (largest as u64) < more {
+            return Before::Broken;
+        }
+        number = more as u32;
+        i += 1;
+    }
+    if i == 0 {
+        return Before::Broken;
+    }
+    if digits < i {
+        return Before::Broken;
+    }
+    if text[0] == b'0' {
+        if 1 < i {
+            return Before::Broken;
+        }
+    }
+    Before::Read { number, length: i }
+}
+
 // The number that a field is.
 pub fn number_of(field: &[u8], digits: usize, largest: u32) -> Number
     ensures { λ r. ⌜ r ≡ numberOf digits largest (now (field .entry)) ⌝ }
 {
-    if field.len() == 0 {
+    let Before::Read { number, length } = number_up_to(field, b' ', digits, largest) else {
         return Number::Broken;
-    }
-    if digits < field.len() {
+    };
+    if length < field.len() {
         return Number::Broken;
-    }
-    if field[0] == b'0' {
-        if 1 < field.len() {
-            return Number::Broken;
-        }
-    }
-    let mut number: u32 = 0;
-    let mut i: usize = 0;
-    while i < field.len() {
-        if !is_digit(field[i]) {
-            return Number::Broken;
-        }
-        let more = number as u64 * 10 + (field[i] - b'0') as u64;
-        if (largest as u64) < more {
-            return Number::Broken;
-        }
-        number = more as u32;
-        i += 1;
     }
     Number::Read(number)
 }

@@ -1,18 +1,17 @@
--- `call_line` meets its contract: the words are tried in turn. The file is long for its 24 needs.
+-- `call_line` meets its contract: the words are tried in turn.
 use Prim.Native.Nat.{ℕ, _≤_}
 use mathlib.Core.Path.{_≡_, sym, ap, _∙_}
 use mathlib.Core.Bool.{true, false, cond}
 use mathlib.Core.List.{List}
 use lib.ListN.{length, drop}
 use Rattle.laws.proofs.Booleans.{was-true, was-false}
-use Rattle.laws.proofs.Parts.{from-drop}
+use Rattle.laws.proofs.Parts.{from, from-drop}
 use Rattle.text.specs.Words.{sameBytes, beginsWith}
-use Rattle.text.specs.Fields.{threeNumbers}
 use Rattle.text.proofs.WordLaws.{not-longer}
 use Rattle.replay.specs.declared.calls.CallLine.the-variants.{Bad}
 use Rattle.replay.specs.Words.{slotWord, joinWord}
-use Rattle.replay.specs.Numbers.{maxDigits, maxNumber}
 use Rattle.replay.specs.Calls.{joinOf, callOfTask, callOf}
+use Rattle.replay.proofs.JoinLaws.{join-broken, join-longer, join-read}
 use borrow.Author.Needs.{needs}
 use Rattle.replay.proofs.calls.call_line.Statement.{statement}
 use Rattle.replay.proofs.calls.call_line.Tie as tie
@@ -33,27 +32,24 @@ no-slot c = sym (c .before .same .ensures) ∙ c .if1 .left
 -- it is no slot, no release and no finish: a join, or no call
 joins :
     (c : tie.After-enum-told2)
-    → let l = line (slot-tried (release-tried c)) in
-    callOf l ≡ cond (beginsWith joinWord l) (joinOf (threeNumbers maxDigits maxNumber (drop (length joinWord) l))) Bad
+    → let l = line (slot-tried (release-tried c)) in callOf l ≡ cond (beginsWith joinWord l) (joinOf (drop (length joinWord) l)) Bad
 unfolding callOf callOfTask
 joins c =
     let e = release-tried c in
     rw (no-slot (slot-tried e), sym (e .before .before .number-after .ensures) ∙ e .enum-told .given .1, sym (c .before .before .number-after2 .ensures) ∙ c .enum-told2 .given .1)
 
--- it begins with the word of a join
-begins : (c : tie.Else2) → beginsWith joinWord (line (slot-tried (release-tried (c .before .before .before)))) ≡ true
+-- it begins with the word of a join, whose fields follow
+abbrev join-line : tie.Else2 → List ℕ
+join-line c = line (slot-tried (release-tried (c .before .before .before)))
+
+begins : (c : tie.Else2) → beginsWith joinWord (join-line c) ≡ true
 begins c = was-true (c .before .begins-with .ensures) (c .if2 .left)
 
-join-fits : (c : tie.Else2) → 5 ≤ length (line (slot-tried (release-tried (c .before .before .before))))
+join-fits : (c : tie.Else2) → 5 ≤ length (join-line c)
 join-fits c = not-longer joinWord _ (begins c)
 
--- the call is what the three numbers make
-join-is : (c : tie.After-three-numbers) → callOf (line (slot-tried (release-tried (c .before .before .before .before .before)))) ≡ joinOf (c .three-numbers .result)
-join-is c =
-    let d = c .before .before in
-    let e = d .before .before .before in
-    let l = line (slot-tried (release-tried e)) in
-    joins e ∙ rw (begins d) (ap joinOf (sym (c .three-numbers .ensures ∙ ap (threeNumbers maxDigits maxNumber) (from-drop l 5))))
+join-is : (c : tie.Else2) → callOf (join-line c) ≡ joinOf (from (join-line c) 5)
+join-is c = joins (c .before .before .before) ∙ rw (begins c) (ap joinOf (sym (from-drop (join-line c) 5)))
 
 returns : tie.Need-returns
 unfolding callOf
@@ -73,19 +69,20 @@ returns-3 c =
 returns-4 : tie.Need-returns-4
 returns-4 c = sym (joins (c .before .before .before) ∙ rw (was-false (c .before .begins-with .ensures) (c .if2 .taken)))
 
-sub-three-numbers : tie.Need-sub-three-numbers
-sub-three-numbers c = join-fits c
+sub-fields : tie.Need-sub-fields
+sub-fields c = join-fits c
 
-part-three-numbers-start : tie.Need-part-three-numbers-start
-part-three-numbers-start c = join-fits c
+part-fields-start : tie.Need-part-fields-start
+part-fields-start c = join-fits c
 
 returns-5 : tie.Need-returns-5
-unfolding joinOf
-returns-5 c = sym (join-is (c .before .before) ∙ ap joinOf (c .enum-told3 .given .1))
+returns-5 c = let n = c .before .before in join-broken _ (sym (n .three-numbers .ensures) ∙ c .enum-told3 .given .1) ∙ sym (join-is (n .before .before))
 
 returns-6 : tie.Need-returns-6
-unfolding joinOf
-returns-6 c = sym (join-is (c .before .before .before) ∙ ap joinOf (c .before .period .given .1))
+returns-6 c = let f = c .before .before in let n = f .before .before in join-longer _ _ _ _ _ (sym (n .three-numbers .ensures) ∙ f .period .given .1) (c .if3 .taken) ∙ sym (join-is (n .before .before))
+
+returns-7 : tie.Need-returns-7
+returns-7 c = let f = c .before .before in let n = f .before .before in join-read _ _ _ _ _ (sym (n .three-numbers .ensures) ∙ f .period .given .1) (c .if3 .left) ∙ sym (join-is (n .before .before))
 
 pub call-line-spec : {M : Type 1} → statement M
 call-line-spec =
@@ -107,11 +104,12 @@ call-line-spec =
     (λ c. search needs)
     (λ c κs. search needs)
     returns-4
-    sub-three-numbers
-    part-three-numbers-start
+    sub-fields
+    part-fields-start
     (λ c. search needs)
     (λ c κs. search needs)
     (λ c. search needs)
     (λ c. search needs)
     returns-5
-    returns-6)
+    returns-6
+    returns-7)

@@ -1,19 +1,52 @@
--- `same` meets its contract: two texts as long as each other, of which one begins with the other.
-use mathlib.Core.Path.{_∙_}
-use borrow.Author.Needs.{needs}
-use Rattle.text.proofs.WordLaws.{same-begins, other-length}
+-- `same` meets its contract. The invariant: the texts are as long as each other, and what is left of them settles whether they are the same.
+use Prim.Native.Nat.{_-_, _≤_}
+use native.Mathlib.Omega.{arith}
+use mathlib.Core.Path.{_≡_, refl, sym, _∙_}
+use lib.ListN.{length, drop}
+use Rattle.text.specs.Words.{sameBytes}
+use Rattle.text.proofs.WordLaws.{other-length, differ-at, agree-at, all-agree}
 use Rattle.text.proofs.bytes.same.Statement.{statement}
 use Rattle.text.proofs.bytes.same.Tie as tie
 
-returns : tie.Need-returns
+abbrev Inv-loop : tie.InvT-loop
+Inv-loop a b i₀ i = (i ≤ length a) × (length a ≡ length b) × (sameBytes a b ≡ sameBytes (drop i a) (drop i b))
+
+abbrev μ-loop : tie.MeasureT-loop
+μ-loop a b i₀ i = length a - i
+
+returns : tie.Need-returns Inv-loop μ-loop
 returns c = other-length _ _ (c .if1 .taken)
 
-returns-2 : tie.Need-returns-2
-returns-2 c = c .begins-with .ensures ∙ same-begins _ _ (c .before .if1 .left)
+loop-holds : tie.Need-loop-holds Inv-loop μ-loop
+loop-holds c = (omega arith, c .if1 .left, refl)
+
+returns-2 : tie.Need-returns-2 Inv-loop μ-loop
+returns-2 c =
+    let h = c .before .before .before .before .loop .inv in
+    sym (h .2 ∙ differ-at _ _ _ (h .1) (c .before .before .before .loop-test .taken) (c .if2 .taken))
+
+loop-again : tie.Need-loop-again Inv-loop μ-loop
+loop-again c =
+    let h = c .before .before .before .before .loop .inv in
+    (omega arith, h .1, h .2 ∙ agree-at _ _ _ (h .1) (c .before .before .before .loop-test .taken) (c .if2 .left))
+
+returns-3 : tie.Need-returns-3 Inv-loop μ-loop
+returns-3 c =
+    let h = c .before .loop .inv in
+    sym (h .2 ∙ all-agree _ _ _ (h .1) (c .loop-test .left))
 
 pub same-spec : {M : Type 1} → statement M
-same-spec = tie.close
+same-spec =
+    tie.close
     (tie.spec
+    Inv-loop
+    μ-loop
     returns
-    (λ c κs. search needs)
-    returns-2)
+    loop-holds
+    (λ c. omega arith)
+    (λ c. omega arith)
+    returns-2
+    (λ c. omega arith)
+    (λ c. omega arith)
+    loop-again
+    returns-3)

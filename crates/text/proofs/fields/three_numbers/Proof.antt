@@ -1,77 +1,99 @@
--- `three_numbers` meets its contract: each field is read in turn.
-use mathlib.Core.Path.{sym, _∙_}
-use mathlib.Core.List.{List}
+-- `three_numbers` meets its contract: each number is read in turn, the first two up to a space.
+use Prim.Native.Nat.{ℕ, _+_}
 use native.Mathlib.Omega.{arith}
-use Prim.Native.Nat.{ℕ}
-use lib.Seq.{length-take-le}
-use Rattle.text.proofs.FieldLaws.{ThreeFields, fields-are, no-fields}
-use Rattle.text.proofs.ThreeNumbers.{not-three, no-first, no-second, no-third, all-three}
+use mathlib.Core.Path.{_≡_, sym, _∙_}
+use mathlib.Core.List.{List}
+use Rattle.laws.proofs.Parts.{past, from-length}
+use Rattle.text.specs.Lines.{lineEnd, space}
+use Rattle.text.specs.Number.{numberUpTo}
+use Rattle.text.specs.declared.number.Before.the-variants.{Read}
+use Rattle.text.proofs.Scan.{before-fits}
+use Rattle.text.proofs.NumberLaws.{up-to}
+use Rattle.text.proofs.ThreeNumbers.{no-first, one-field, no-second, two-fields, no-third, all-three}
 use borrow.Author.Needs.{needs}
 use Rattle.text.proofs.fields.three_numbers.Statement.{statement}
 use Rattle.text.proofs.fields.three_numbers.Tie as tie
 
--- the line, where its fields end, and the fields
-abbrev line : tie.After-first → List ℕ
-line c = c .before .before .before .before .args .line .now
+-- the text, and the place after its first number and space, from that of the second number
+abbrev text : tie.After-a → List ℕ
+text c = c .before .before .before .before .args .text .now
 
-fields : (c : tie.After-first) → ThreeFields (line c) (c .first .given .0 .0) (c .first .given .0 .1 .0)
-fields c = fields-are _ _ _ (sym (c .before .before .three-fields .ensures) ∙ c .first .given .1)
+abbrev at-first : tie.After-rest → tie.Else1
+at-first c = c .before
 
--- the places where the fields were found, from that of the first number, and each number's place from the next one's
-abbrev at-fields : tie.After-a → tie.After-first
-at-fields c = c .before .before .before .before .before
+-- the numbers that were read
+first : (c : tie.After-a) → numberUpTo (c .before .before .before .before .args .digits) (c .before .before .before .before .args .largest) space (text c) ≡ Read (c .a .given .0 .0) (c .a .given .0 .1 .0)
+first c = sym (c .before .before .number-up-to .ensures) ∙ c .a .given .1
 
-abbrev at-a : tie.After-b → tie.After-a
-at-a c = c .before .before .before .before .before
+abbrev first-of : tie.After-b → tie.After-a
+first-of c = c .before .before .before .before .before .before
 
-abbrev at-b : tie.After-c → tie.After-b
-at-b c = c .before .before .before .before .before
+second :
+    (c : tie.After-b)
+    → let a = first-of c in
+    let s = a .before .before .before .before .args in
+    numberUpTo (s .digits) (s .largest) space (past (text a) (a .a .given .0 .1 .0)) ≡ Read (c .b .given .0 .0) (c .b .given .0 .1 .0)
+second c = sym (c .before .before .number-up-to2 .ensures) ∙ c .b .given .1
+
+abbrev second-of : tie.After-c → tie.After-b
+second-of c = c .before .before .before .before .before .before
+
+third :
+    (c : tie.After-c)
+    → let b = second-of c in
+    let a = first-of b in
+    let s = a .before .before .before .before .args in
+    numberUpTo (s .digits) (s .largest) lineEnd (past (past (text a) (a .a .given .0 .1 .0)) (b .b .given .0 .1 .0))
+    ≡ Read (c .c .given .0 .0) (c .c .given .0 .1 .0)
+third c = sym (c .before .before .number-up-to3 .ensures) ∙ c .c .given .1
 
 returns : tie.Need-returns
-returns c = not-three _ _ _ (no-fields _ (sym (c .before .before .three-fields .ensures) ∙ c .enum-told .given .1))
-
-slice-aggregate-number-of : tie.Need-slice-aggregate-number-of
-slice-aggregate-number-of c = let f = fields (c .before .before) in sym (length-take-le _ _ (omega (arith, f .order, f .within)))
+returns c = no-first _ _ _ (sym (c .before .before .number-up-to .ensures) ∙ c .enum-told .given .1)
 
 returns-2 : tie.Need-returns-2
-returns-2 c = no-first _ _ _ _ _ (fields (c .before .before .before .before .before)) (sym (c .before .before .number-of .ensures) ∙ c .enum-told2 .given .1)
-
-add-number-of : tie.Need-add-number-of
-add-number-of c = let f = at-fields (c .before) in omega (arith, fields f .order, fields f .within, f .before .before .before .before .good)
-
-sub-number-of : tie.Need-sub-number-of
-sub-number-of c = omega (arith, fields (at-fields (c .before)) .order)
-
-part-number-of-start : tie.Need-part-number-of-start
-part-number-of-start c = omega (arith, fields (at-fields (c .before)) .order)
-
-part-number-of-end : tie.Need-part-number-of-end
-part-number-of-end c = omega (arith, fields (at-fields (c .before)) .within)
+returns-2 c = let a = c .before .before in one-field _ _ _ _ _ (first a) (c .if1 .taken)
 
 returns-3 : tie.Need-returns-3
-returns-3 c =
-    no-second _ _ _ _ _ (fields (at-fields (c .before .before .before .before .before))) (sym (c .before .before .number-of2 .ensures) ∙ c .enum-told3 .given .1)
-
-add-number-of-2 : tie.Need-add-number-of-2
-add-number-of-2 c = let f = at-fields (at-a (c .before)) in omega (arith, fields f .within, f .before .before .before .before .good)
-
-sub-number-of-2 : tie.Need-sub-number-of-2
-sub-number-of-2 c = omega (arith, fields (at-fields (at-a (c .before))) .within)
-
-part-number-of-start-2 : tie.Need-part-number-of-start-2
-part-number-of-start-2 c = omega (arith, fields (at-fields (at-a (c .before))) .within)
+returns-3 c = let n = c .before .before in let d = at-first (n .before) in no-second _ _ _ _ _ (first (d .before .before)) (d .if1 .left) (sym (n .number-up-to2 .ensures) ∙ c .enum-told2 .given .1)
 
 returns-4 : tie.Need-returns-4
-returns-4 c =
-    no-third _ _ _ _ _ (fields (at-fields (at-a (c .before .before .before .before .before)))) (sym (c .before .before .number-of3 .ensures) ∙ c .enum-told4 .given .1)
+returns-4 c = let b = c .before .before in let d = at-first (b .before .before .before) in two-fields _ _ _ _ _ (first (d .before .before)) (d .if1 .left) _ _ (second b) (c .if2 .taken)
 
 returns-5 : tie.Need-returns-5
 returns-5 c =
-    let d = c .before in
-    let b = at-b d in
-    let a = at-a b in
-    all-three _ _ _ _ _ (fields (at-fields a)) _ _ _ (sym (a .before .before .number-of .ensures) ∙ a .a .given .1)
-    (sym (b .before .before .number-of2 .ensures) ∙ b .b .given .1) (sym (d .before .before .number-of3 .ensures) ∙ d .c .given .1)
+    let n = c .before .before in
+    let e = n .before .before in
+    let b = e .before .before in
+    let d = at-first (b .before .before .before) in
+    no-third _ _ _ _ _ (first (d .before .before)) (d .if1 .left) _ _ (second b) (e .if2 .left) (sym (n .number-up-to3 .ensures) ∙ c .enum-told3 .given .1)
+
+add-t23 : tie.Need-add-t23
+add-t23 c =
+    let t = c .before in
+    let b = second-of t in
+    let a = first-of b in
+    let start = a .before .before .before .before in
+    let r = past (text a) (a .a .given .0 .1 .0) in
+    let u = past r (b .b .given .0 .1 .0) in
+    omega (
+      arith,
+      up-to _ _ _ _ _ _ (third t) .1,
+      before-fits lineEnd u,
+      from-length r (b .b .given .0 .1 .0 + 1),
+      from-length (text a) (a .a .given .0 .1 .0 + 1),
+      t .before .before .before .before .if2 .left,
+      b .before .before .before .before .if1 .left,
+      start .good,
+    )
+
+returns-6 : tie.Need-returns-6
+returns-6 c =
+    let t = c .before in
+    let n = t .before .before in
+    let e = n .before .before in
+    let b = e .before .before in
+    let d = at-first (b .before .before .before) in
+    all-three _ _ _ _ _ (first (d .before .before)) (d .if1 .left) _ _ (second b) (e .if2 .left) _ _ (third t)
 
 pub three-numbers-spec : {M : Type 1} → statement M
 three-numbers-spec =
@@ -81,25 +103,26 @@ three-numbers-spec =
     (λ c. search needs)
     (λ c. search needs)
     returns
-    slice-aggregate-number-of
-    (λ c κs. search needs)
-    (λ c. search needs)
-    (λ c. search needs)
     returns-2
-    add-number-of
-    sub-number-of
-    part-number-of-start
-    part-number-of-end
+    (λ c. search needs)
+    (λ c. search needs)
+    (λ c. search needs)
+    (λ c. search needs)
     (λ c κs. search needs)
     (λ c. search needs)
     (λ c. search needs)
     returns-3
-    add-number-of-2
-    sub-number-of-2
-    part-number-of-start-2
+    returns-4
+    (λ c. search needs)
+    (λ c. search needs)
+    (λ c. search needs)
     (λ c. search needs)
     (λ c κs. search needs)
     (λ c. search needs)
     (λ c. search needs)
-    returns-4
-    returns-5)
+    returns-5
+    (λ c. search needs)
+    (λ c. search needs)
+    (λ c. search needs)
+    add-t23
+    returns-6)
