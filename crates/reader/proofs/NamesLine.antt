@@ -13,7 +13,7 @@ use Rattle.laws.proofs.Parts.{from, past, from-drop}
 use Rattle.text.specs.Lines.{lineEnd, has, before, after, fieldCount}
 use Rattle.text.specs.Fields.{threeFields}
 use Rattle.text.specs.declared.fields.Fields.the-variants.{Other}
-use Rattle.text.proofs.Scan.{here, hasnt-of, cut}
+use Rattle.text.proofs.Split.{here, hasnt-of, cut}
 use Rattle.text.proofs.FieldLaws.{ThreeFields, no-fields}
 use Rattle.reader.specs.declared.names.Columns.{Columns}
 use Rattle.reader.specs.declared.names.NamesLine.the-variants.{Read, Broken}

@@ -15,7 +15,7 @@ use Rattle.text.specs.Lines.{lineEnd, has, before, after, field, fieldCount}
 use Rattle.text.specs.Number.{decimalFrom, decimal, isNumber}
 use Rattle.text.specs.Fields.{areThree, threeNumbers}
 use Rattle.text.specs.declared.fields.Numbers.the-variants as Numbers
-use Rattle.text.proofs.Scan.{here, has-of, hasnt-of}
+use Rattle.text.proofs.Split.{here, has-of, hasnt-of}
 use Rattle.text.proofs.NumberLaws.{no-limit}
 use Rattle.text.proofs.FieldLaws.{no-more}
 use Rattle.text.proofs.ThreeNumbers.{AreThree, three-are, three-are-not}

@@ -10,7 +10,7 @@ use Rattle.laws.proofs.CaseSplits.{by-cond, clash}
 use Rattle.laws.proofs.Parts.{from, from-drop, from-length}
 use Rattle.text.specs.Lines.{lineEnd, has, before, after, lines}
 use Rattle.text.specs.Words.{sameBytes}
-use Rattle.text.proofs.Scan.{Cut, cut, hasnt-of}
+use Rattle.text.proofs.Split.{Cut, cut, hasnt-of}
 use Rattle.text.proofs.LineLaws.{lines-more, lines-none, total, total-lines}
 use Rattle.replay.specs.Words.{callsWord}
 use Rattle.replay.specs.Calls.{callsFrom, callsStart}

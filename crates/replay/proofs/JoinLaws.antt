@@ -9,8 +9,9 @@ use Rattle.laws.proofs.CaseSplits.{by-test}
 use Rattle.text.specs.Lines.{lineEnd, has}
 use Rattle.text.specs.Fields.{threeNumbers}
 use Rattle.text.specs.declared.fields.Numbers.the-variants.{Three, Broken}
-use Rattle.text.proofs.Scan.{gone, has-of, hasnt-of}
-use Rattle.text.proofs.ThreeNumbers.{not-ended, three-are, three-are-not}
+use Rattle.text.proofs.Split.{gone, has-of, hasnt-of}
+use Rattle.text.proofs.ThreeNumbers.{three-are, three-are-not}
+use Rattle.text.proofs.NumbersOn.{not-ended}
 use Rattle.machine.specs.declared.call.Call.the-variants.{Join}
 use Rattle.replay.specs.Numbers.{maxDigits, maxNumber}
 use Rattle.replay.specs.Calls.{joinOf}

@@ -9,7 +9,7 @@ use lib.ListN.{length, take, length-append}
 use lib.Seq.{length-take-le}
 use Rattle.laws.proofs.Parts.{past, from-length, empty}
 use Rattle.text.specs.Lines.{lineEnd, has, before, lines, unended, isEmpty}
-use Rattle.text.proofs.Scan.{cut, hasnt-of}
+use Rattle.text.proofs.Split.{cut, hasnt-of}
 use Rattle.text.proofs.LineLaws.{lines-more, lines-none, unended-more, unended-all, some-bytes}
 use Rattle.text.proofs.Putting.{Partly, partly-none, partly-more, partly-last, partly-all}
 use Rattle.machine.specs.Calls.{step}

@@ -9,7 +9,7 @@ use Rattle.laws.proofs.Parts.{past}
 use Rattle.text.specs.Lines.{lineEnd, has, before}
 use Rattle.text.specs.Number.{numberAfter}
 use Rattle.text.specs.declared.number.Number.the-variants.{Read, Broken}
-use Rattle.text.proofs.Scan.{cut, hasnt-of}
+use Rattle.text.proofs.Split.{cut, hasnt-of}
 use Rattle.replay.specs.Words.{coresWord}
 use Rattle.replay.specs.Numbers.{maxDigits, maxNumber}
 use Rattle.replay.specs.Calls.{callsStart}

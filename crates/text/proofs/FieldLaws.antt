@@ -14,7 +14,7 @@ use Rattle.laws.proofs.Parts.{from-drop, past}
 use Rattle.text.specs.Lines.{space, has, before, after, fieldCount, field}
 use Rattle.text.specs.Fields.{threeFields}
 use Rattle.text.specs.declared.fields.Fields.the-variants.{Three, Other}
-use Rattle.text.proofs.Scan.{here, gone, gone-rest, has-of, hasnt-of, Cut, cut}
+use Rattle.text.proofs.Split.{here, gone, gone-rest, has-of, hasnt-of, Cut, cut}
 
 -- a line with no space has one field
 pub count-one : (l : List ℕ) → has space l ≡ false → fieldCount l ≡ 1

@@ -1,3 +1,4 @@
+pub mod Split
 pub mod Scan
 pub mod WordLaws
 pub mod NumberLaws
@@ -5,6 +6,7 @@ pub mod NumberScan
 pub mod DigitLaws
 pub mod LineLaws
 pub mod FieldLaws
+pub mod NumbersOn
 pub mod ThreeNumbers
 pub mod Putting
 pub mod NumbersLine

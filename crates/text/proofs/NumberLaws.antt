@@ -15,7 +15,7 @@ use Rattle.text.specs.Lines.{space, has, before}
 use Rattle.text.specs.Number.{isDigit, allDigits, leadingZero, wellFormed, decimalFrom, decimal, isNumber, numberOf, numberUpTo}
 use Rattle.text.specs.declared.number.Number.the-variants as Number
 use Rattle.text.specs.declared.number.Before.the-variants.{Read, Broken}
-use Rattle.text.proofs.Scan.{gone, has-of, hasnt-of}
+use Rattle.text.proofs.Split.{gone, has-of, hasnt-of}
 
 -- a field that is the number n
 pub record Numbered (k largest : ℕ) (f : List ℕ) (n : ℕ) : Type 0 where

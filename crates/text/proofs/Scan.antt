@@ -1,66 +1,17 @@
--- Laws of `has`, `before` and `after`. Others cite `here` (a byte is in a text: the text in three parts), `gone` (it is not), and `Passed`
--- with its laws (a scan has passed the first bytes of a text and not met it), and `inner` and `outer` (which of two bytes comes first).
+-- The search for the first byte b of a text. Others cite `Passed` with its laws: the first i bytes are no b (`passed-none`, `passed-more`), and what
+-- is known at the next byte (`at-other`, `met`), at the end of the text (`missed-count`), and at either (`stopped`).
 use Prim.Native.Nat.{ℕ, suc, _+_, _≤_, _<_}
-use native.Mathlib.Nat.{lt-irrefl, not-le-of-lt}
 use native.Mathlib.Numerals.{add-one}
 use native.Mathlib.Omega.{arith}
 use mathlib.Core.Path.{_≡_, refl, sym, ap, _∙_}
-use mathlib.Core.Bool.{true, false, _||_, false≢true}
+use mathlib.Core.Bool.{true, false}
 use mathlib.Core.Logic.{_⊎_, ⊎-elim}
-use mathlib.Core.List.{List, [], _∷_, _++_, append-nil}
-use lib.Dec.{eqb}
+use mathlib.Core.List.{List, _∷_, _++_, append-nil}
 use lib.ListN.{length, getD, take, drop, length-append, drop-of-length-le}
-use lib.Seq.{drop-cons, take-suc, length-take-le, take-all, getD-at, take-append-seam, drop-append-add, append-snoc}
-use borrow.Author.Tests.{eq-eqb, ne-eqb, eqb-true}
-use Rattle.laws.proofs.CaseSplits.{by-test}
-use Rattle.laws.proofs.Parts.{past, from-drop}
-use Rattle.text.specs.Lines.{has, before, after}
-
--- b is in s: what stands before it and after it
-pub record Here (b : ℕ) (s : List ℕ) : Type 0 where
-  pub whole : s ≡ before b s ++ b ∷ after b s
-  pub within : length (before b s) < length s
-  pub front : take (length (before b s)) s ≡ before b s
-  pub rest : drop (length (before b s) + 1) s ≡ after b s
-
-whole-of : (b : ℕ) (s : List ℕ) → has b s ≡ true → s ≡ before b s ++ b ∷ after b s
-unfolding has before after
-whole-of b [] h = absurd (false≢true h)
-whole-of b (x ∷ s) h =
-    by-test (eqb x b)
-    (λ e. rw e (ap (λ (y : ℕ). y ∷ s) (eqb-true x b e)))
-    (λ e. rw e (ap (λ (l : List ℕ). x ∷ l) (whole-of b s (rw e at h))))
-
-pub here : (b : ℕ) (s : List ℕ) → has b s ≡ true → Here b s
-here b s h =
-    let w = whole-of b s h in
-    record {
-      whole = w;
-      within = within-of (before b s) (after b s) w;
-      front = front-of (before b s) (after b s) w;
-      rest = rest-of (before b s) (after b s) w;
-    }
-  where
-    within-of : (f r : List ℕ) → s ≡ f ++ b ∷ r → length f < length s
-    within-of f r e = omega (arith, simp length-append at (ap length e))
-
-    front-of : (f r : List ℕ) → s ≡ f ++ b ∷ r → take (length f) s ≡ f
-    front-of f r e = rw e (take-append-seam f (b ∷ r))
-
-    rest-of : (f r : List ℕ) → s ≡ f ++ b ∷ r → drop (length f + 1) s ≡ r
-    rest-of f r e = rw e (drop-append-add f (b ∷ r) 1)
-
--- b is not in s: all of s stands before it
-pub gone : (b : ℕ) (s : List ℕ) → has b s ≡ false → before b s ≡ s
-unfolding has before
-gone b [] h = refl
-gone b (x ∷ s) h =
-    by-test (eqb x b) (λ e. absurd (false≢true (sym (rw e at h)))) (λ e. rw e (ap (λ (l : List ℕ). x ∷ l) (gone b s (rw e at h))))
-
-pub gone-rest : (b : ℕ) (s : List ℕ) → has b s ≡ false → after b s ≡ []
-unfolding has after
-gone-rest b [] h = refl
-gone-rest b (x ∷ s) h = by-test (eqb x b) (λ e. absurd (false≢true (sym (rw e at h)))) (λ e. rw e (gone-rest b s (rw e at h)))
+use lib.Seq.{drop-cons, take-suc, length-take-le, take-all, getD-at, append-snoc}
+use borrow.Author.Tests.{eq-eqb, ne-eqb}
+use Rattle.text.specs.Lines.{has, before}
+use Rattle.text.proofs.Split.{gone}
 
 -- the first i bytes of s are no b
 pub record Passed (b : ℕ) (s : List ℕ) (i : ℕ) : Type 0 where
@@ -72,11 +23,11 @@ pub passed-none : (b : ℕ) (s : List ℕ) → Passed b s 0
 passed-none b s = record { within = omega arith; there = refl; front = refl }
 
 -- a byte that is no b
-pub has-other : (b x : ℕ) (s : List ℕ) → (x ≡ b → ⊥) → has b (x ∷ s) ≡ has b s
+has-other : (b x : ℕ) (s : List ℕ) → (x ≡ b → ⊥) → has b (x ∷ s) ≡ has b s
 unfolding has
 has-other b x s n = rw (ne-eqb x b n)
 
-pub before-other : (b x : ℕ) (s : List ℕ) → (x ≡ b → ⊥) → before b (x ∷ s) ≡ x ∷ before b s
+before-other : (b x : ℕ) (s : List ℕ) → (x ≡ b → ⊥) → before b (x ∷ s) ≡ x ∷ before b s
 unfolding before
 before-other b x s n = rw (ne-eqb x b n)
 
@@ -120,7 +71,7 @@ met b s i p h e =
     }
 
 -- where it comes to the end of the text
-pub missed : (b : ℕ) (s : List ℕ) (i : ℕ) → Passed b s i → length s ≤ i → has b s ≡ false
+missed : (b : ℕ) (s : List ℕ) (i : ℕ) → Passed b s i → length s ≤ i → has b s ≡ false
 unfolding has
 missed b s i p h = p .there ∙ rw (drop-of-length-le s h)
 
@@ -135,69 +86,3 @@ stopped b s i p =
     ⊎-elim
     (λ h. (gone b s (missed b s i p h) ∙ sym (take-all i s h), missed-count b s i p h))
     (λ h. let m = met b s i p (h .0) (h .1) in (m .front, m .count))
-
--- by how many bytes stand before b: fewer than there are, or all
-pub has-of : (b : ℕ) (s : List ℕ) → length (before b s) < length s → has b s ≡ true
-has-of b s h = by-test (has b s) (λ e. e) (λ e. absurd (lt-irrefl (length s) (rw (gone b s e) at h)))
-
-pub hasnt-of : (b : ℕ) (s : List ℕ) → length s ≤ length (before b s) → has b s ≡ false
-hasnt-of b s h = by-test (has b s) (λ e. absurd (not-le-of-lt (here b s e .within) h)) (λ e. e)
-
--- a byte of two texts put together
-has-append : (b : ℕ) (f g : List ℕ) → has b (f ++ g) ≡ (has b f || has b g)
-unfolding has
-has-append b [] g = refl
-has-append b (x ∷ f) g = by-test (eqb x b) (λ e. rw e) (λ e. rw e (has-append b f g))
-
--- a byte e that is not before the first b is after it
-pub has-after : (b e : ℕ) (s : List ℕ) → eqb b e ≡ false → has b s ≡ true → has e s ≡ true → has e (before b s) ≡ false → has e (after b s) ≡ true
-unfolding has
-has-after b e s n i h f =
-    sym (ap (has e) (here b s i .whole) ∙ has-append e (before b s) (b ∷ after b s) ∙ rw (f, n)) ∙ h
-
-pub before-fits : (b : ℕ) (s : List ℕ) → length (before b s) ≤ length s
-before-fits b s = by-test (has b s) (λ h. omega (arith, here b s h .within)) (λ h. omega (arith, ap length (gone b s h)))
-
--- the parts of a slice on either side of a byte that was found at r, as the code has them
-pub record Cut (b : ℕ) (s : List ℕ) (r : ℕ) : Type 0 where
-  pub is : has b s ≡ true
-  pub front : take r s ≡ before b s
-  pub rest : past s r ≡ after b s
-
-pub cut : (b : ℕ) (s : List ℕ) (r : ℕ) → r ≡ length (before b s) → r < length s → Cut b s r
-cut b s r e h =
-    let i : has b s ≡ true = has-of b s (rw e at h) in
-    record {
-      is = i;
-      front = rw e (here b s i .front);
-      rest = from-drop s (r + 1) ∙ rw e (here b s i .rest);
-    }
-
--- the first b of a text stands before its first e, which is another byte
-pub record Inner (b e : ℕ) (s : List ℕ) : Type 0 where
-  pub there : has b s ≡ true
-  pub first : before b s ≡ before b (before e s)
-  pub rest : before e (after b s) ≡ after b (before e s)
-
-module _ (b e : ℕ) (ne : b ≡ e → ⊥) where
-  pub inner : (s : List ℕ) → has b (before e s) ≡ true → Inner b e s
-  unfolding has before after
-  inner [] h = absurd (false≢true h)
-  inner (x ∷ s) h =
-      by-test (eqb x e)
-      (λ p. absurd (false≢true (rw p at h)))
-      (λ p.
-      by-test (eqb x b)
-      (λ q. record { there = rw q; first = rw (p, q); rest = rw (p, q) })
-      (λ q. let i = inner s (rw (p, q) at h) in record { there = rw (q, i .there); first = rw (p, q, i .first); rest = rw (p, q, i .rest) }))
-
-  -- or after it
-  pub outer : (s : List ℕ) → has b s ≡ true → has b (before e s) ≡ false → has e (before b s) ≡ true
-  unfolding has before
-  outer [] h n = absurd (false≢true h)
-  outer (x ∷ s) h n =
-      by-test (eqb x b)
-      (λ q.
-      let p : eqb x e ≡ false = ne-eqb x e (λ same. ne (sym (eqb-true x b q) ∙ same)) in
-      absurd (false≢true (sym (rw (p, q) at n))))
-      (λ q. by-test (eqb x e) (λ p. rw (q, p)) (λ p. rw (q, p) (outer s (rw q at h) (rw (p, q) at n))))

@@ -1,4 +1,4 @@
--- `play` meets its contract. The invariant: the answers to the rest of the text are still to come. The file is long for its 23 needs.
+-- `play` meets its contract. The invariant: the answers to the rest of the text are still to come.
 use Prim.Native.Nat.{_+_, _*_, _≤_, _<_}
 use native.Mathlib.Nat.{le-of-lt}
 use native.Mathlib.Omega.{arith}

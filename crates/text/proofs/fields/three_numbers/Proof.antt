@@ -7,7 +7,7 @@ use Rattle.laws.proofs.Parts.{past, from-length}
 use Rattle.text.specs.Lines.{lineEnd, space}
 use Rattle.text.specs.Number.{numberUpTo}
 use Rattle.text.specs.declared.number.Before.the-variants.{Read}
-use Rattle.text.proofs.Scan.{before-fits}
+use Rattle.text.proofs.Split.{before-fits}
 use Rattle.text.proofs.NumberLaws.{up-to}
 use Rattle.text.proofs.ThreeNumbers.{no-first, one-field, no-second, two-fields, no-third, all-three}
 use borrow.Author.Needs.{needs}

@@ -1,4 +1,5 @@
 -- `number_up_to` meets its contract. The invariant: the bytes so far are not the end, and are digits that make the number, which is not too large.
+-- The file is long for its 22 needs: a loop with three ways out, and four tests after it.
 use Prim.Native.Nat.{ℕ, _-_, _≤_}
 use native.Mathlib.Omega.{arith}
 use mathlib.Core.Path.{_≡_, _∙_}

@@ -1,0 +1,102 @@
+-- Numbers with a space after each, and one more, as `numbersOn`. Others cite: `are-three`, that a line of three numbers is two such and one more;
+-- `on-line` and `first-on`, of the first number of a text's line; `unspaced`, and `not-ended`, that no byte 10 is in a line of three numbers.
+use Prim.Native.Nat.{ℕ, zero, suc, _+_}
+use native.Mathlib.Omega.{arith}
+use mathlib.Core.Path.{_≡_, refl, sym, ap, _∙_}
+use mathlib.Core.Bool.{Bool, true, false, _&&_, and-false, and-assoc}
+use mathlib.Core.List.{List}
+use borrow.Author.Tests.{eq-eqb, ne-eqb}
+use lib.ListN.{length, length-append}
+use Rattle.laws.proofs.CaseSplits.{by-test, not-both}
+use Rattle.laws.proofs.Booleans.{and-left, and-right}
+use Rattle.text.specs.Lines.{lineEnd, space, has, before, after, fieldCount, field}
+use Rattle.text.specs.Number.{isDigit, isNumber}
+use Rattle.text.specs.Fields.{areThree}
+use Rattle.text.specs.declared.number.Before.the-variants as Before
+use Rattle.text.proofs.Split.{here, gone, has-after, inner, outer}
+use Rattle.text.proofs.NumberLaws.{no-other}
+use Rattle.text.proofs.FieldLaws.{count-one, count-more, count-positive}
+
+module _ (k largest : ℕ) where
+  -- so many numbers with a space after each, and one more
+  unfoldable pub numbersOn : ℕ → List ℕ → Bool
+  numbersOn zero l = isNumber k largest l
+  numbersOn (suc n) l = has space l && isNumber k largest (before space l) && numbersOn n (after space l)
+
+  spaced : (f : List ℕ) → has space f ≡ true → isNumber k largest f ≡ false
+  unfolding isDigit
+  spaced f h = no-other k largest space refl f h
+
+  pub unspaced : (f : List ℕ) → isNumber k largest f ≡ true → has space f ≡ false
+  unspaced f t = by-test (has space f) (λ h. not-both (isNumber k largest f) t (spaced f h)) (λ h. h)
+
+  -- a line of three numbers
+  pub are-three : (l : List ℕ) → areThree k largest l ≡ numbersOn 2 l
+  unfolding areThree numbersOn field
+  are-three l =
+      let r = after space l in
+      let t = after space r in
+      by-test (has space l)
+      (λ h.
+      by-test (has space r)
+      (λ h₁.
+      by-test (has space t)
+      (λ h₂.
+      let n = ne-eqb (fieldCount l) 3 (λ e. omega (arith, count-more l h, count-more r h₁, count-more t h₂, count-positive (after space t))) in
+      rw (n, h, h₁, spaced t h₂, and-false (isNumber k largest (before space r)), and-false (isNumber k largest (before space l))))
+      (λ h₂.
+      let n = eq-eqb (fieldCount l) 3 (omega (arith, count-more l h, count-more r h₁, count-one t h₂)) in
+      rw (n, h, h₁, gone space t h₂) (and-assoc (isNumber k largest (before space l)) (isNumber k largest (before space r)) (isNumber k largest t))))
+      (λ h₁.
+      let n = ne-eqb (fieldCount l) 3 (λ e. omega (arith, count-more l h, count-one r h₁)) in
+      rw (n, h, h₁, and-false (isNumber k largest (before space l)))))
+      (λ h. let n = ne-eqb (fieldCount l) 3 (λ e. omega (arith, count-one l h)) in rw (n, h))
+
+  -- a byte 10 is in none of them
+  ended : (n : ℕ) (l : List ℕ) → has lineEnd l ≡ true → numbersOn n l ≡ false
+  unfolding numbersOn isDigit
+  ended zero l h = no-other k largest lineEnd refl l h
+  ended (suc n) l h =
+      by-test (has space l)
+      (λ p.
+      by-test (has lineEnd (before space l))
+      (λ q. rw (p, no-other k largest lineEnd refl (before space l) q))
+      (λ q. rw (ended n (after space l) (has-after space lineEnd l refl p h q)) (and-false (has space l && isNumber k largest (before space l)))))
+      (λ p. rw p)
+
+  pub not-ended : (l : List ℕ) → has lineEnd l ≡ true → areThree k largest l ≡ false
+  not-ended l h = are-three l ∙ ended 2 l h
+
+  -- the first of them, where the line is that of a text: it ends at a space before the byte 10
+  pub on-line :
+      (n : ℕ) (s : List ℕ)
+      → numbersOn (suc n) (before lineEnd s) ≡ (has space s && isNumber k largest (before space s) && numbersOn n (before lineEnd (after space s)))
+  unfolding numbersOn isDigit
+  on-line n s =
+      by-test (has space (before lineEnd s))
+      (λ h. let i = inner space lineEnd (λ e. omega (arith, e)) s h in rw (i .there, i .first, i .rest, h))
+      (λ h.
+      by-test (has space s)
+      (λ p. rw (h, p, no-other k largest lineEnd refl (before space s) (outer space lineEnd (λ e. omega (arith, e)) s p h)))
+      (λ p. rw (h, p)))
+
+  -- what a first number says of the line and of the text
+  pub record OnLine (n : ℕ) (s : List ℕ) : Type 0 where
+    pub first : before space (before lineEnd s) ≡ before space s
+    pub rest : after space (before lineEnd s) ≡ before lineEnd (after space s)
+    pub count : length (before lineEnd s) ≡ length (before space s) + 1 + length (before lineEnd (after space s))
+    pub next : numbersOn n (before lineEnd (after space s)) ≡ true
+
+  pub first-on : (n : ℕ) (s : List ℕ) → numbersOn (suc n) (before lineEnd s) ≡ true → OnLine n s
+  unfolding numbersOn
+  first-on n s t =
+      let l = before lineEnd s in
+      let number = isNumber k largest (before space l) in
+      let h = and-left (has space l) number (and-left (has space l && number) (numbersOn n (after space l)) t) in
+      let i = inner space lineEnd (λ e. omega (arith, e)) s h in
+      record {
+        first = sym (i .first);
+        rest = sym (i .rest);
+        count = omega (arith, simp length-append at (ap length (here space l h .whole)), ap length (i .first), ap length (i .rest));
+        next = rw (i .rest) (and-right (has space l && number) (numbersOn n (after space l)) t);
+      }
