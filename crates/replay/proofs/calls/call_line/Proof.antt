@@ -7,16 +7,19 @@ use lib.ListN.{length, drop}
 use Rattle.laws.proofs.Booleans.{was-true, was-false}
 use Rattle.laws.proofs.Parts.{from, from-drop}
 use Rattle.text.specs.Words.{sameBytes, beginsWith}
+use Rattle.text.specs.Number.{numberAfter}
+use Rattle.text.specs.declared.number.Number.the-variants.{Broken}
 use Rattle.text.proofs.WordLaws.{not-longer}
 use Rattle.replay.specs.declared.calls.CallLine.the-variants.{Bad}
-use Rattle.replay.specs.Words.{slotWord, joinWord}
+use Rattle.replay.specs.Words.{releaseWord, finishWord, joinWord, slotWord}
+use Rattle.replay.specs.Numbers.{maxDigits, maxNumber}
 use Rattle.replay.specs.Calls.{joinOf, callOfTask, callOf}
 use Rattle.replay.proofs.JoinLaws.{join-broken, join-longer, join-read}
 use borrow.Author.Needs.{needs}
 use Rattle.replay.proofs.calls.call_line.Statement.{statement}
 use Rattle.replay.proofs.calls.call_line.Tie as tie
 
--- the line, where a slot was tried, and where a release was
+-- the line, and the places where a slot and a release were tried
 abbrev line : tie.Else1 → List ℕ
 line c = c .before .before .before .before .args .line .now
 
@@ -29,14 +32,18 @@ release-tried c = c .before .before .before .before
 no-slot : (c : tie.Else1) → sameBytes (line c) slotWord ≡ false
 no-slot c = sym (c .before .same .ensures) ∙ c .if1 .left
 
--- it is no slot, no release and no finish: a join, or no call
+no-release : (c : tie.After-enum-told) → numberAfter maxDigits maxNumber releaseWord (line (slot-tried c)) ≡ Broken
+no-release c = sym (c .before .before .number-after .ensures) ∙ c .enum-told .given .1
+
+no-finish : (c : tie.After-enum-told2) → numberAfter maxDigits maxNumber finishWord (line (slot-tried (release-tried c))) ≡ Broken
+no-finish c = sym (c .before .before .number-after2 .ensures) ∙ c .enum-told2 .given .1
+
+-- it is none of the three: a join, or no call
 joins :
     (c : tie.After-enum-told2)
     → let l = line (slot-tried (release-tried c)) in callOf l ≡ cond (beginsWith joinWord l) (joinOf (drop (length joinWord) l)) Bad
 unfolding callOf callOfTask
-joins c =
-    let e = release-tried c in
-    rw (no-slot (slot-tried e), sym (e .before .before .number-after .ensures) ∙ e .enum-told .given .1, sym (c .before .before .number-after2 .ensures) ∙ c .enum-told2 .given .1)
+joins c = rw (no-slot (slot-tried (release-tried c)), no-release (release-tried c), no-finish c)
 
 -- it begins with the word of a join, whose fields follow
 abbrev join-line : tie.Else2 → List ℕ
@@ -64,7 +71,7 @@ unfolding callOf callOfTask
 returns-3 c =
     let n = c .before in
     let e = n .before .before .before .before in
-    rw (no-slot (slot-tried e), sym (e .before .before .number-after .ensures) ∙ e .enum-told .given .1, sym (n .before .before .number-after2 .ensures) ∙ n .number2 .given .1)
+    rw (no-slot (slot-tried e), no-release e, sym (n .before .before .number-after2 .ensures) ∙ n .number2 .given .1)
 
 returns-4 : tie.Need-returns-4
 returns-4 c = sym (joins (c .before .before .before) ∙ rw (was-false (c .before .begins-with .ensures) (c .if2 .taken)))
