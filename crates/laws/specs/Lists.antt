@@ -1,4 +1,4 @@
--- Lists.
+-- Lists whose first entries are replaced.
 use Prim.Native.Nat.{ℕ, zero, suc}
 use mathlib.Core.List.{List}
 use lib.ListN.{set}
