@@ -3,6 +3,7 @@
 use Prim.Native.Nat.{ℕ, _-_, _<_}
 use mathlib.Core.Path.{_≡_}
 use mathlib.Core.Bool.{Bool, true, false, cond, not}
+use mathlib.Core.List.{List}
 use lib.Dec.{ltb}
 use native.Mathlib.Omega.{arith}
 use borrow.Author.Tests.{not-false, leb-false, ltb-false}
@@ -16,6 +17,7 @@ use Rattle.laws.proofs.CaseSplits.{by-cond}
 use Rattle.judge.specs.Judge.{judged}
 use Rattle.job.specs.Job.{closedJob, releasedJob}
 use Rattle.machine.specs.Machine.{taskAt, jobAt, withJob}
+use Rattle.machine.specs.Pick.{runners}
 use Rattle.machine.specs.Slot.{noReport, slotReport, afterSlot}
 use Rattle.machine.specs.Sound.{sound}
 use Rattle.machine.specs.Calls.{done, refuse, withJoined, joinAfter, release, finish, slot, join, step}
@@ -25,6 +27,8 @@ use Rattle.machine.specs.declared.call.Call.the-variants.{Release, Finis
 use Rattle.machine.specs.declared.answer.Answer.{Answer}
 use Rattle.machine.specs.declared.answer.Report.{Report}
 use Rattle.machine.proofs.TaskNumbers.{KnownTask, known-task}
+use Rattle.machine.proofs.SlotStep.{LegalSlot}
+use Rattle.machine.proofs.RunnersLegal.{runners-legal}
 
 -- the answer of a refused call, of an accepted one, and of an accepted slot
 abbrev pub refusal : Machine → (number place : ℕ) → Answer
@@ -33,8 +37,8 @@ refusal m number place = record { machine = m; outcome = Refused number place; r
 abbrev pub accepted : Machine → Report → Answer
 accepted m report = record { machine = m; outcome = Done; report = report }
 
-abbrev pub slotAnswer : Machine → Answer
-slotAnswer m = accepted (afterSlot m) (slotReport m)
+abbrev pub slotAnswer : Machine → (ran : List Bool) → Answer
+slotAnswer m ran = accepted (afterSlot m ran) (slotReport m ran)
 
 -- the machine after an accepted release, and after an accepted finish
 unfoldable pub afterRelease : Machine → (number : ℕ) → Machine
@@ -65,7 +69,7 @@ module _
     (on-refusal : (call : Call) (number place : ℕ) → P call (refusal m number place))
     (on-release : (number : ℕ) → ReleaseTaken m number → P (Release number) (accepted (afterRelease m number) noReport))
     (on-finish : (number : ℕ) → FinishTaken m number → P (Finish number) (accepted (afterFinish m number) noReport))
-    (on-slot : sound m ≡ true → P Slot (slotAnswer m))
+    (on-slot : (ran : List Bool) → LegalSlot m ran → P Slot (slotAnswer m ran))
     (on-join : (t : Task) → JoinTaken m t → P (Join t) (accepted (withJoined m t) noReport))
   where
     -- past a test that refuses the call by this number
@@ -93,7 +97,7 @@ module _
         past _ _ _ λ known.
         past _ _ _ λ opened.
         on-finish number (record { task = known-task m number (not-false _ ok) (not-false _ known); was-open = not-false _ opened })
-    by-call Slot = past _ _ _ λ ok. on-slot (not-false _ ok)
+    by-call Slot = past _ _ _ λ ok. on-slot (runners m) (runners-legal m (not-false _ ok))
     by-call (Join t) =
         past _ _ _ λ ok.
         past _ (not (inRange t)) _ λ in-range.

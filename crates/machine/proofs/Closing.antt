@@ -14,10 +14,8 @@ use Rattle.edzl.proofs.SumLaws.{bit-true, bit-false}
 use Rattle.edzl.proofs.Invariant.{SameJob}
 use Rattle.tasks.specs.TaskSet.{firstTasks, tasksOf}
 use Rattle.machine.specs.Machine.{jobAt, withJob}
-use Rattle.machine.specs.Pick.{runners}
 use Rattle.machine.specs.Slot.{noReport, slotReport, afterSlot}
 use Rattle.tasks.specs.Outcome.{isDone}
-use Rattle.machine.specs.Sound.{sound}
 use Rattle.machine.specs.Calls.{withJoined}
 use Rattle.machine.specs.Play.{Entry, play}
 use Rattle.machine.specs.InTime.{isSlot, isFinishOf, acceptedSlot, acceptedFinish, saysRan, saysFinished, slotCount}
@@ -26,7 +24,7 @@ use Rattle.machine.specs.declared.call.Call.{Call}
 use Rattle.machine.specs.declared.call.Call.the-variants.{Release, Finish, Slot, Join}
 use Rattle.machine.specs.declared.answer.Answer.{Answer}
 use Rattle.machine.proofs.State.{jobsOf}
-use Rattle.machine.proofs.SlotStep.{finished-is}
+use Rattle.machine.proofs.SlotStep.{LegalSlot, finished-is}
 use Rattle.machine.proofs.CallCases.{ReleaseTaken, FinishTaken, JoinTaken, afterRelease, afterFinish, refusal, accepted, slotAnswer, by-call}
 use Rattle.machine.proofs.JobSteps.{release-step, finish-step, join-step}
 use Rattle.machine.proofs.Kept.{Kept, kept-release, kept-finish, kept-join}
@@ -91,39 +89,39 @@ module _ (m : Machine) (i l b : ℕ) (going : Going m i l b) where
         after-other _ _ refl (kept-join m (going .kept) t taken) (omega (arith, going .inside))
         (join-step m (going .kept .all-jobs) t (taken .room) .same-jobs i (going .inside))
 
-  module _ (is-sound : sound m ≡ true) where
+  module _ (ran : List Bool) (legal : LegalSlot m ran) where
     -- what the answer says of task i
-    says-ran : (t : Bool) → getD (runners m) i false ≡ t → saysRan (suc i) (entryOf Slot (slotAnswer m)) ≡ t
+    says-ran : (t : Bool) → getD ran i false ≡ t → saysRan (suc i) (entryOf Slot (slotAnswer m ran)) ≡ t
     unfolding saysRan acceptedSlot isDone isSlot slotReport
     says-ran t e =
         let same : suc i - 1 ≡ i = omega arith in
         rw (same, e)
 
-    says-finished : b - bit (getD (runners m) i false) ≡ 0 → saysFinished (suc i) (entryOf Slot (slotAnswer m)) ≡ true
+    says-finished : b - bit (getD ran i false) ≡ 0 → saysFinished (suc i) (entryOf Slot (slotAnswer m ran)) ≡ true
     unfolding saysFinished acceptedSlot isDone isSlot
     says-finished e =
         let same : suc i - 1 ≡ i = omega arith in
-        rw same (finished-is m i is-sound (going .inside) (going .is-open) (omega (arith, going .budget-is)))
+        rw same (finished-is m ran i (legal .is-sound) (going .inside) (going .is-open) (omega (arith, going .budget-is)))
 
     module _ (calls : List Call) (rest : AllClose i calls) where
-      after-idle : getD (runners m) i false ≡ false → ClosesAfter i l b calls Slot (slotAnswer m)
+      after-idle : getD ran i false ≡ false → ClosesAfter i l b calls Slot (slotAnswer m ran)
       unfolding AllClose ClosesIn ClosesAfter slotCount acceptedSlot isDone isSlot
       after-idle idle bound =
-          let owes = going-on going is-sound b (omega (arith, bit-false (getD (runners m) i false) idle)) (budget-some going) in
-          closes-idle (suc i) l b _ _ (left-some going) refl (says-ran false idle) (rest (afterSlot m) (l - 1) b owes (omega arith))
+          let owes = going-on going ran legal b (omega (arith, bit-false (getD ran i false) idle)) (budget-some going) in
+          closes-idle (suc i) l b _ _ (left-some going) refl (says-ran false idle) (rest (afterSlot m ran) (l - 1) b owes (omega arith))
 
-      after-run : getD (runners m) i false ≡ true → ClosesAfter i l b calls Slot (slotAnswer m)
+      after-run : getD ran i false ≡ true → ClosesAfter i l b calls Slot (slotAnswer m ran)
       unfolding AllClose ClosesIn ClosesAfter slotCount acceptedSlot isDone isSlot
       after-run runs bound =
-          let one = bit-true (getD (runners m) i false) runs in
+          let one = bit-true (getD ran i false) runs in
           by-order b 1
           (λ few. closes-last (suc i) l b _ _ (left-some going) refl (says-ran true runs) few (says-finished (omega arith)))
           (λ more.
           closes-ran (suc i) l b _ _ (left-some going) refl (says-ran true runs) more
-          (rest (afterSlot m) (l - 1) (b - 1) (going-on going is-sound (b - 1) (omega arith) (omega arith)) (omega arith)))
+          (rest (afterSlot m ran) (l - 1) (b - 1) (going-on going ran legal (b - 1) (omega arith) (omega arith)) (omega arith)))
 
-      after-slot : ClosesAfter i l b calls Slot (slotAnswer m)
-      after-slot = by-test (getD (runners m) i false) after-run after-idle
+      after-slot : ClosesAfter i l b calls Slot (slotAnswer m ran)
+      after-slot = by-test (getD ran i false) after-run after-idle
 
 all-close : (i : ℕ) (calls : List Call) → AllClose i calls
 unfolding AllClose ClosesIn ClosesAfter play slotCount
@@ -134,7 +132,7 @@ all-close i (call ∷ calls) m l b going =
     (after-refusal m i l b going calls rest)
     (after-release m i l b going calls rest)
     (after-finish m i l b going calls rest)
-    (λ is-sound. after-slot m i l b going is-sound calls rest)
+    (λ ran legal. after-slot m i l b going ran legal calls rest)
     (after-join m i l b going calls rest)
     call
 

@@ -11,7 +11,7 @@ use Rattle.judge.proofs.Computing.{computingVerdicts}
 use Rattle.job.proofs.Computing.{computingJobs}
 use Rattle.machine.specs.Machine.{zeroMachine, taskAt, jobAt, withJob, inTable}
 use Rattle.machine.specs.Pick.{openCount, waiting, precedes, candidates, withPicked, pick, runnerCount, runners}
-use Rattle.machine.specs.Slot.{passed, noReport, slotReport, afterSlot}
+use Rattle.machine.specs.Slot.{passed, ranCount, noReport, slotReport, afterSlot}
 use Rattle.laws.specs.Lists.{replaced}
 use Rattle.machine.specs.Sound.{jobsSound, sound}
 use Rattle.machine.specs.Calls.{done, refuse, startAfter, start, release, finish, slot, withJoined, joinAfter, join, step}
@@ -27,7 +27,7 @@ unfolding
     computingVerdicts computingJobs
     zeroMachine taskAt jobAt withJob inTable
     openCount waiting precedes candidates withPicked pick runnerCount runners
-    passed replaced noReport slotReport afterSlot
+    passed ranCount replaced noReport slotReport afterSlot
     jobsSound sound
     done refuse startAfter start release finish slot withJoined joinAfter join step play
     isSlot acceptedSlot

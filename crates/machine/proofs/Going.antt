@@ -2,18 +2,17 @@
 -- which it still owes (`going-on`).
 use Prim.Native.Nat.{ℕ, _-_, _≤_, _<_}
 use mathlib.Core.Path.{_≡_, _∙_}
-use mathlib.Core.Bool.{true, false}
+use mathlib.Core.Bool.{Bool, true, false}
+use mathlib.Core.List.{List}
 use lib.ListN.{getD}
 use native.Mathlib.Omega.{arith}
 use Rattle.edzl.specs.Sums.{bit}
 use Rattle.edzl.proofs.Invariant.{SameJob}
 use Rattle.tasks.specs.TaskSet.{firstTasks, tasksOf}
-use Rattle.machine.specs.Pick.{runners}
 use Rattle.machine.specs.Slot.{afterSlot}
-use Rattle.machine.specs.Sound.{sound}
 use Rattle.machine.specs.declared.machine.Machine.{Machine}
 use Rattle.machine.proofs.State.{jobsOf}
-use Rattle.machine.proofs.SlotStep.{slot-step}
+use Rattle.machine.proofs.SlotStep.{LegalSlot, slot-step}
 use Rattle.machine.proofs.Kept.{Kept, kept-slot, slot-on-time}
 
 -- task i has an open job, with l slots left, that owes b
@@ -43,14 +42,16 @@ module _ {m : Machine} {i l b : ℕ} (going : Going m i l b) where
         budget-is = same .same-budget ∙ going .budget-is;
       }
 
-  pub going-on : sound m ≡ true → (b' : ℕ) → b - bit (getD (runners m) i false) ≡ b' → 1 ≤ b' → Going (afterSlot m) i (l - 1) b'
+  pub going-on :
+      (ran : List Bool) → LegalSlot m ran → (b' : ℕ) → b - bit (getD ran i false) ≡ b' → 1 ≤ b'
+      → Going (afterSlot m ran) i (l - 1) b'
   unfolding afterSlot tasksOf firstTasks
-  going-on is-sound b' owes some =
-      let in-time = slot-on-time m (going .kept) is-sound i (going .inside) (going .is-open) in
-      let open-after = slot-step m is-sound .effect i (going .inside) .stays-open (going .is-open) in
+  going-on ran legal b' owes some =
+      let in-time = slot-on-time m (going .kept) ran legal i (going .inside) (going .is-open) in
+      let open-after = slot-step m ran legal .effect i (going .inside) .stays-open (going .is-open) in
       let still = open-after (omega (arith, going .budget-is)) (omega (arith, going .budget-is)) in
       record {
-        kept = kept-slot m (going .kept) is-sound;
+        kept = kept-slot m (going .kept) ran legal;
         inside = going .inside;
         is-open = still .still-open;
         left-is = rw (going .left-is) at (still .now-left);

@@ -1,7 +1,7 @@
 -- Demand 3: from an admitted table, over every list of calls, no slot is late and every job is closed in time. The theorem is `promise`.
 use Prim.Native.Nat.{ℕ, suc, _-_, _≤_}
 use mathlib.Core.Path.{_≡_, refl, _∙_}
-use mathlib.Core.Bool.{true, false, cond}
+use mathlib.Core.Bool.{Bool, true, false, cond}
 use mathlib.Core.List.{List, [], _∷_}
 use lib.ListN.{getD}
 use native.Mathlib.Omega.{arith}
@@ -10,7 +10,6 @@ use Rattle.laws.proofs.CaseSplits.{by-test, clash}
 use Rattle.machine.specs.Machine.{taskAt, withJob}
 use Rattle.machine.specs.Slot.{slotReport, afterSlot}
 use Rattle.tasks.specs.Outcome.{isDone}
-use Rattle.machine.specs.Sound.{sound}
 use Rattle.job.specs.Job.{releasedJob}
 use Rattle.machine.specs.Calls.{withJoined, step}
 use Rattle.machine.specs.Play.{play}
@@ -18,7 +17,7 @@ use Rattle.machine.specs.InTime.{slotCount, joinedBy, closedBySlot, Prom
 use Rattle.machine.specs.declared.machine.Machine.{Machine}
 use Rattle.machine.specs.declared.call.Call.{Call}
 use Rattle.machine.proofs.State.{jobsOf}
-use Rattle.machine.proofs.SlotStep.{late-is, Late}
+use Rattle.machine.proofs.SlotStep.{LegalSlot, Late, late-is}
 use Rattle.machine.proofs.CallCases.{ReleaseTaken, afterRelease, afterFinish, by-call}
 use Rattle.machine.proofs.JobSteps.{released-job}
 use Rattle.machine.proofs.Kept.{Kept, kept-release, kept-call, slot-on-time, freshMachine, started, kept-fresh}
@@ -35,18 +34,18 @@ table-after m =
     (λ call number place. refl)
     (λ number taken. refl)
     (λ number taken. refl)
-    (λ is-sound. refl)
+    (λ ran legal. refl)
     (λ t taken. refl)
 
 module _ (m : Machine) (kept : Kept m) where
-  never-late : (i : ℕ) → sound m ≡ true → Late m i → ⊥
-  never-late i is-sound late =
-      late .owes (omega (arith, late .out, slot-on-time m kept is-sound i (late .inside) (late .was-open)))
+  never-late : (ran : List Bool) → LegalSlot m ran → (i : ℕ) → Late m ran i → ⊥
+  never-late ran legal i late =
+      late .owes (omega (arith, late .out, slot-on-time m kept ran legal i (late .inside) (late .was-open)))
 
-  slot-in-time : sound m ≡ true → (i : ℕ) → getD (slotReport m .late) i false ≡ false
-  slot-in-time is-sound i =
-      by-test (getD (slotReport m .late) i false)
-      (λ late. absurd (never-late i is-sound (late-is m i is-sound late)))
+  slot-in-time : (ran : List Bool) → LegalSlot m ran → (i : ℕ) → getD (slotReport m ran .late) i false ≡ false
+  slot-in-time ran legal i =
+      by-test (getD (slotReport m ran .late) i false)
+      (λ late. absurd (never-late ran legal i (late-is m ran i (legal .is-sound) late)))
       (λ fine. fine)
 
   -- the job of a release, right after it
@@ -90,7 +89,7 @@ module _ (m : Machine) (kept : Kept m) where
             rw (← same) (release-closed calls n taken);
       })
       (λ n taken. quiet-in-time _ _ _ refl (λ number e d. clash cc))
-      (λ is-sound. record { not-late = slot-in-time is-sound; closed = λ number e d. clash cc })
+      (λ ran legal. record { not-late = slot-in-time ran legal; closed = λ number e d. clash cc })
       (λ t taken. quiet-in-time _ _ _ refl (λ number e d. clash cc))
 
 each-entry : (calls : List Call) (m : Machine) → Kept m → EachInTime (m .table) (play m calls)

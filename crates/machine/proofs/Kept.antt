@@ -2,7 +2,8 @@
 -- job is late in a slot (`slot-on-time`).
 use Prim.Native.Nat.{ℕ, _-_, _≤_, _<_}
 use mathlib.Core.Path.{_≡_}
-use mathlib.Core.Bool.{true, false}
+use mathlib.Core.Bool.{Bool, true, false}
+use mathlib.Core.List.{List}
 use lib.ListN.{length, getD, replicate, length-set, length-replicate}
 use Rattle.tasks.specs.declared.task.Task.{Task}
 use Rattle.tasks.specs.declared.table.Table.{Table}
@@ -17,14 +18,12 @@ use Rattle.judge.specs.Judge.{judged}
 use Rattle.job.specs.declared.job.Job.{Job}
 use Rattle.job.specs.Job.{freshJob}
 use Rattle.machine.specs.Machine.{jobAt, withJob}
-use Rattle.machine.specs.Pick.{runners}
 use Rattle.machine.specs.Slot.{afterSlot}
-use Rattle.machine.specs.Sound.{sound}
 use Rattle.machine.specs.Calls.{done, startAfter, start, withJoined, step}
 use Rattle.machine.specs.declared.machine.Machine.{Machine}
 use Rattle.machine.specs.declared.call.Call.{Call}
 use Rattle.machine.proofs.State.{jobsOf}
-use Rattle.machine.proofs.SlotStep.{slot-step}
+use Rattle.machine.proofs.SlotStep.{LegalSlot, slot-step}
 use Rattle.tasks.proofs.TaskSetLaws.{well-checked}
 use Rattle.judge.proofs.Outcome.{Admits, admits-means}
 use Rattle.laws.proofs.Replaced.{replicate-entry, length-replaced}
@@ -99,21 +98,22 @@ module _ (m : Machine) (kept : Kept m) where
         all-jobs = rw length-set (kept .all-jobs);
       }
 
-  pub kept-slot : sound m ≡ true → Kept (afterSlot m)
+  pub kept-slot : (ran : List Bool) → LegalSlot m ran → Kept (afterSlot m ran)
   unfolding afterSlot
-  kept-slot is-sound =
+  kept-slot ran legal =
       record {
-        safe = safe-slot _ (sound-fits m is-sound) _ _ _ (kept .safe) (kept .admits) _ (slot-step m is-sound);
+        safe = safe-slot _ (sound-fits m (legal .is-sound)) _ _ _ (kept .safe) (kept .admits) _ (slot-step m ran legal);
         admits = kept .admits;
         all-jobs = rw length-replaced (kept .all-jobs);
       }
 
   -- a job owes no more after a slot than it has slots left
   pub slot-on-time :
-      sound m ≡ true → (i : ℕ) → i < m .table .count → jobsOf m .isOpen i ≡ true
-      → jobsOf m .budget i - bit (getD (runners m) i false) ≤ jobsOf m .left i - 1
+      (ran : List Bool) → LegalSlot m ran → (i : ℕ) → i < m .table .count → jobsOf m .isOpen i ≡ true
+      → jobsOf m .budget i - bit (getD ran i false) ≤ jobsOf m .left i - 1
   unfolding tasksOf firstTasks
-  slot-on-time is-sound = on-time _ (sound-fits m is-sound) _ _ _ (kept .safe) (kept .admits) _ (slot-step m is-sound)
+  slot-on-time ran legal =
+      on-time _ (sound-fits m (legal .is-sound)) _ _ _ (kept .safe) (kept .admits) _ (slot-step m ran legal)
 
   pub kept-call : (call : Call) → Kept (step m call .machine)
   kept-call =
@@ -121,5 +121,5 @@ module _ (m : Machine) (kept : Kept m) where
       (λ call number place. kept)
       kept-release
       kept-finish
-      kept-slot
+      (λ ran. kept-slot ran)
       kept-join

@@ -1,4 +1,5 @@
--- The runners of a slot are a legal choice in the theory's sense: `runners-legal`.
+-- The runners that the machine picks are a legal choice in the theory's sense: `runners-legal`. That they are as many as `runnerCount` says:
+-- `runners-number`.
 use Prim.Native.Nat.{ℕ, _≤_, _<_}
 use mathlib.Core.Path.{_≡_}
 use mathlib.Core.Bool.{true, false}
@@ -7,7 +8,7 @@ use native.Mathlib.Omega.{arith}
 use lib.ListN.{getD}
 use borrow.Author.Tests.{le-leb, lt-leb}
 use Rattle.laws.proofs.CaseSplits.{by-order, by-test, not-both}
-use Rattle.edzl.specs.Sums.{sumTo, bit}
+use Rattle.edzl.specs.Sums.{bit}
 use Rattle.edzl.proofs.SumLaws.{sum-strict, bit-true, bit-false, bit-monotone}
 use Rattle.edzl.proofs.Choice.{Beats, more-urgent, both-urgent, neither-urgent, LegalChoice}
 use Rattle.tasks.specs.Limits.{maxTasks}
@@ -15,8 +16,12 @@ use Rattle.job.specs.Job.{isUrgent}
 use Rattle.job.proofs.Order.{by-urgency, by-left, holds}
 use Rattle.machine.specs.Machine.{jobAt}
 use Rattle.machine.specs.Pick.{openCount, precedes, candidates, runnerCount, runners}
+use Rattle.machine.specs.Slot.{ranCount}
+use Rattle.machine.specs.Sound.{sound}
 use Rattle.machine.specs.declared.machine.Machine.{Machine}
 use Rattle.machine.proofs.State.{jobsOf}
+use Rattle.machine.proofs.SoundLaws.{sound-passes}
+use Rattle.machine.proofs.SlotStep.{LegalSlot}
 use Rattle.machine.proofs.Waiting.{open-waits}
 use Rattle.machine.proofs.PickLaws.{Picked, picks}
 
@@ -37,13 +42,13 @@ module _ (m : Machine) (fits : m .table .count ≤ maxTasks) where
   unfolding runners
   runner-open = all-runners .opened
 
-  runners-number : sumTo (m .table .count) (λ i. bit (getD (runners m) i false)) ≡ runnerCount m
-  unfolding runners
+  pub runners-number : ranCount m (runners m) ≡ runnerCount m
+  unfolding runners ranCount
   runners-number = all-runners .number
 
   -- Where as many run as are open, every open task runs.
   all-run : openCount m ≤ runnerCount m → (i : ℕ) → i < m .table .count → jobAt m i .«open» ≡ true → getD (runners m) i false ≡ true
-  unfolding openCount
+  unfolding openCount ranCount
   all-run h i l o =
       by-test (getD (runners m) i false)
       (λ runs. runs)
@@ -57,9 +62,9 @@ module _ (m : Machine) (fits : m .table .count ≤ maxTasks) where
             (omega (arith, bit-false (getD (runners m) i false) idle, bit-true (jobAt m i .«open») o)),
       )))
 
-  pub runners-legal : LegalChoice (m .table .count) (m .cores) (λ i. getD (runners m) i false) (jobsOf m)
-  unfolding jobsOf candidates runnerCount runners
-  runners-legal =
+  legal-choice : LegalChoice (m .table .count) (m .cores) (λ i. getD (runners m) i false) (jobsOf m)
+  unfolding jobsOf candidates ranCount runnerCount runners
+  legal-choice =
       record {
         runner-open = λ i h. runner-open i;
         enough =
@@ -71,3 +76,6 @@ module _ (m : Machine) (fits : m .table .count ≤ maxTasks) where
             (beats-precedes m x y open-x (runner-open y runs) beats)
             (all-runners .first y runs x x-in (open-waits m (runners m) x open-x idle));
       }
+
+pub runners-legal : (m : Machine) → sound m ≡ true → LegalSlot m (runners m)
+runners-legal m is-sound = record { is-sound = is-sound; choice = legal-choice m (sound-passes m is-sound .count-fits) }

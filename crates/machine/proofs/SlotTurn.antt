@@ -11,41 +11,40 @@ use Rattle.tasks.specs.declared.outcome.Outcome.the-variants.{Done}
 use Rattle.tasks.specs.Limits.{maxTasks}
 use Rattle.job.specs.Job.{freshJob}
 use Rattle.machine.specs.Machine.{jobAt}
-use Rattle.machine.specs.Pick.{runners, runnerCount}
 use Rattle.job.specs.Slot.{charged, aged, isFinished, isLate, settled}
-use Rattle.machine.specs.Slot.{passed, slotReport, afterSlot}
+use Rattle.machine.specs.Slot.{passed, ranCount, slotReport, afterSlot}
 use Rattle.laws.specs.Lists.{replaced}
 use Rattle.laws.proofs.Replaced.{replaced-past}
 use Rattle.job.specs.declared.job.Job.{Job}
 use Rattle.machine.specs.declared.machine.Machine.{Machine}
 use Rattle.machine.specs.declared.answer.Answer.{Answer}
 
--- the machine m and two lists of the report after the first i tasks of m₀ have passed the slot
-pub record Turned (m₀ m : Machine) (finished late : List Bool) (i : ℕ) : Type 0 where
+-- the machine m and two lists of the report after the first i tasks of m₀ have passed the slot in which `ran` says who ran
+pub record Turned (m₀ : Machine) (ran : List Bool) (m : Machine) (finished late : List Bool) (i : ℕ) : Type 0 where
   pub same-table : m .table ≡ m₀ .table
   pub same-cores : m .cores ≡ m₀ .cores
-  pub jobs-are : m .jobs ≡ replaced i (λ k. settled (passed m₀ k)) (m₀ .jobs)
-  pub finished-are : finished ≡ replaced i (λ k. isFinished (passed m₀ k)) (replicate maxTasks false)
-  pub late-are : late ≡ replaced i (λ k. isLate (passed m₀ k)) (replicate maxTasks false)
+  pub jobs-are : m .jobs ≡ replaced i (λ k. settled (passed m₀ ran k)) (m₀ .jobs)
+  pub finished-are : finished ≡ replaced i (λ k. isFinished (passed m₀ ran k)) (replicate maxTasks false)
+  pub late-are : late ≡ replaced i (λ k. isLate (passed m₀ ran k)) (replicate maxTasks false)
 
-pub turned-none : (m : Machine) → Turned m m (replicate maxTasks false) (replicate maxTasks false) 0
+pub turned-none : (m : Machine) (ran : List Bool) → Turned m ran m (replicate maxTasks false) (replicate maxTasks false) 0
 unfolding replaced
-turned-none m = record { same-table = refl; same-cores = refl; jobs-are = refl; finished-are = refl; late-are = refl }
+turned-none m ran = record { same-table = refl; same-cores = refl; jobs-are = refl; finished-are = refl; late-are = refl }
 
-module _ (m₀ m : Machine) (finished late : List Bool) (i : ℕ) (t : Turned m₀ m finished late i) where
+module _ (m₀ : Machine) (ran : List Bool) (m : Machine) (finished late : List Bool) (i : ℕ) (t : Turned m₀ ran m finished late i) where
   -- the job at i has not passed yet
   pub job-before : getD (m .jobs) i freshJob ≡ jobAt m₀ i
   unfolding jobAt
-  job-before = rw (t .jobs-are) (replaced-past (λ k. settled (passed m₀ k)) (m₀ .jobs) freshJob i i (le-refl i))
+  job-before = rw (t .jobs-are) (replaced-past (λ k. settled (passed m₀ ran k)) (m₀ .jobs) freshJob i i (le-refl i))
 
   -- one task more
   pub turned-more :
-      (j : Job) → j ≡ aged (charged (getD (runners m₀) i false) (getD (m .jobs) i freshJob))
-      → Turned m₀ (record { table = m .table; cores = m .cores; jobs = set (m .jobs) i (settled j) })
+      (j : Job) → j ≡ aged (charged (getD ran i false) (getD (m .jobs) i freshJob))
+      → Turned m₀ ran (record { table = m .table; cores = m .cores; jobs = set (m .jobs) i (settled j) })
       (set finished i (isFinished j)) (set late i (isLate j)) (i + 1)
   unfolding replaced passed
   turned-more j e =
-      let p : j ≡ passed m₀ i = e ∙ ap (λ (x : Job). aged (charged (getD (runners m₀) i false) x)) job-before in
+      let p : j ≡ passed m₀ ran i = e ∙ ap (λ (x : Job). aged (charged (getD ran i false) x)) job-before in
       record {
         same-table = t .same-table;
         same-cores = t .same-cores;
@@ -56,15 +55,15 @@ module _ (m₀ m : Machine) (finished late : List Bool) (i : ℕ) (t : Turned m�
 
 -- after every task
 pub turned-all :
-    (m₀ m : Machine) (finished late ran : List Bool) (n : ℕ) → Turned m₀ m finished late (m₀ .table .count) → ran ≡ runners m₀
-    → n ≡ runnerCount m₀
+    (m₀ : Machine) (ran : List Bool) (m : Machine) (finished late : List Bool) (n : ℕ) → Turned m₀ ran m finished late (m₀ .table .count)
+    → n ≡ ranCount m₀ ran
     → _≡_ {A = Answer}
     (record { machine = m; outcome = Done; report = record { ran = ran; finished = finished; late = late; runners = n } })
-    (record { machine = afterSlot m₀; outcome = Done; report = slotReport m₀ })
+    (record { machine = afterSlot m₀ ran; outcome = Done; report = slotReport m₀ ran })
 unfolding afterSlot slotReport
-turned-all m₀ m finished late ran n t e q =
+turned-all m₀ ran m finished late n t q =
     λ i. record {
       machine = record { table = t .same-table i; cores = t .same-cores i; jobs = t .jobs-are i };
       outcome = Done;
-      report = record { ran = e i; finished = t .finished-are i; late = t .late-are i; runners = q i };
+      report = record { ran = ran; finished = t .finished-are i; late = t .late-are i; runners = q i };
     }

@@ -15,6 +15,7 @@ use Rattle.tasks.specs.Check.{checked}
 use Rattle.judge.specs.Judge.{judged}
 use Rattle.job.specs.Job.{freshJob, releasedJob, closedJob}
 use Rattle.machine.specs.Machine.{zeroMachine, taskAt, jobAt, withJob, inTable}
+use Rattle.machine.specs.Pick.{runners}
 use Rattle.machine.specs.Slot.{noReport, slotReport, afterSlot}
 use Rattle.machine.specs.Sound.{sound}
 use Rattle.machine.specs.declared.machine.Machine.{Machine}
@@ -60,8 +61,9 @@ finish m number =
 -- "Slot knows 0 only"
 unfoldable pub slot : Machine → Answer
 slot m =
+    let ran = runners m in
     cond (not (sound m)) (refuse m unsoundMachine)
-    (record { machine = afterSlot m; outcome = Done; report = slotReport m })
+    (record { machine = afterSlot m ran; outcome = Done; report = slotReport m ran })
 
 -- "added at the end of the table, closed, gap 0"
 unfoldable pub withJoined : Machine → Task → Machine

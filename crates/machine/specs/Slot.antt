@@ -1,19 +1,24 @@
--- A slot's four steps: document 01, "The slot machine".
+-- Steps 2 to 4 of a slot, by who ran in it: document 01, "The slot machine". `ran` has a flag for each task.
 use Prim.Native.Nat.{ℕ}
-use mathlib.Core.Bool.{false}
+use mathlib.Core.Bool.{Bool, false}
+use mathlib.Core.List.{List}
 use lib.ListN.{getD, replicate}
 use Rattle.laws.specs.Lists.{replaced}
+use Rattle.edzl.specs.Sums.{sumTo, bit}
 use Rattle.tasks.specs.Limits.{maxTasks}
 use Rattle.job.specs.declared.job.Job.{Job}
 use Rattle.job.specs.Slot.{charged, aged, isFinished, isLate, settled}
 use Rattle.machine.specs.Machine.{jobAt}
-use Rattle.machine.specs.Pick.{runners, runnerCount}
 use Rattle.machine.specs.declared.machine.Machine.{Machine}
 use Rattle.machine.specs.declared.answer.Report.{Report}
 
 -- the job of the task at an index after steps 2 and 3
-unfoldable pub passed : Machine → ℕ → Job
-passed m i = aged (charged (getD (runners m) i false) (jobAt m i))
+unfoldable pub passed : Machine → (ran : List Bool) → ℕ → Job
+passed m ran i = aged (charged (getD ran i false) (jobAt m i))
+
+-- "the number that ran"
+unfoldable pub ranCount : Machine → (ran : List Bool) → ℕ
+ranCount m ran = sumTo (m .table .count) (λ i. bit (getD ran i false))
 
 -- "a refused slot names no task and gives 0 runners"; every call that is no slot reports the same
 unfoldable pub noReport : Report
@@ -26,20 +31,20 @@ noReport =
     }
 
 -- "The answer tells for each task whether it ran, finished, was late, and gives the number that ran."
-unfoldable pub slotReport : Machine → Report
-slotReport m =
+unfoldable pub slotReport : Machine → (ran : List Bool) → Report
+slotReport m ran =
     record {
-      ran = runners m;
-      finished = replaced (m .table .count) (λ i. isFinished (passed m i)) (replicate maxTasks false);
-      late = replaced (m .table .count) (λ i. isLate (passed m i)) (replicate maxTasks false);
-      runners = runnerCount m;
+      ran = ran;
+      finished = replaced (m .table .count) (λ i. isFinished (passed m ran i)) (replicate maxTasks false);
+      late = replaced (m .table .count) (λ i. isLate (passed m ran i)) (replicate maxTasks false);
+      runners = ranCount m ran;
     }
 
 -- the machine after a slot
-unfoldable pub afterSlot : Machine → Machine
-afterSlot m =
+unfoldable pub afterSlot : Machine → (ran : List Bool) → Machine
+afterSlot m ran =
     record {
       table = m .table;
       cores = m .cores;
-      jobs = replaced (m .table .count) (λ i. settled (passed m i)) (m .jobs);
+      jobs = replaced (m .table .count) (λ i. settled (passed m ran i)) (m .jobs);
     }

@@ -9,15 +9,14 @@ ghost use Prim.Native.Nat.{_≤_};
 ghost use mathlib.Core.Path.{_≡_};
 ghost use Rattle.tasks.specs.declared.outcome.Outcome.the-variants.{Done};
 ghost use Rattle.tasks.specs.Limits.{maxTasks};
-ghost use Rattle.machine.specs.Pick.{runnerCount, runners as runnersOf};
-ghost use Rattle.machine.specs.Slot.{afterSlot, slotReport};
+ghost use Rattle.machine.specs.Slot.{ranCount, afterSlot, slotReport};
 ghost use Rattle.machine.specs.Calls.{slot};
 
 impl Machine {
-    // Steps 2 to 4 of a slot in which these tasks run.
+    // Steps 2 to 4 of a slot in which these tasks ran, so many in number.
     fn passed(mut self, ran: [bool; MAX_TASKS], runners: u32) -> Answer
-        requires { ⌜ (self .table .count ≤ maxTasks) × (ran ≡ runnersOf self) × (runners ≡ runnerCount self) ⌝ }
-        ensures { λ r. ⌜ r ≡ record { machine = afterSlot self; outcome = Done; report = slotReport self } ⌝ }
+        requires { ⌜ (self .table .count ≤ maxTasks) × (runners ≡ ranCount self ran) ⌝ }
+        ensures { λ r. ⌜ r ≡ record { machine = afterSlot self ran; outcome = Done; report = slotReport self ran } ⌝ }
     {
         let count = self.table.count;
         let mut finished = [false; MAX_TASKS];

@@ -6,38 +6,37 @@ use mathlib.Core.Bool.{false}
 use lib.ListN.{getD}
 use borrow.Author.Needs.{needs}
 use Rattle.job.specs.Job.{freshJob}
-use Rattle.machine.specs.Pick.{runners}
 use Rattle.job.specs.Slot.{charged, aged}
 use Rattle.machine.proofs.SlotTurn.{Turned, turned-none, turned-more, turned-all}
 use Rattle.machine.proofs.machine.Machine.passed.Statement.{statement}
 use Rattle.machine.proofs.machine.Machine.passed.Tie as tie
 
 abbrev Inv-loop : tie.InvT-loop
-Inv-loop runners self₀ ran count finished₀ late₀ i₀ self finished late i = (i ≤ count) × Turned self₀ self finished late i
+Inv-loop runners self₀ ran count finished₀ late₀ i₀ self finished late i = (i ≤ count) × Turned self₀ ran self finished late i
 
 abbrev μ-loop : tie.MeasureT-loop
 μ-loop runners self₀ ran count finished₀ late₀ i₀ self finished late i = count - i
 
 loop-holds : tie.Need-loop-holds Inv-loop μ-loop
-loop-holds c = (omega arith, turned-none _)
+loop-holds c = (omega arith, turned-none _ _)
 
 loop-again : tie.Need-loop-again Inv-loop μ-loop
 unfolding freshJob
 loop-again c =
     let a = c .before .before .before in
     let l = a .before .before .before .before in
-    let e : a .aged .result ≡ aged (charged (getD (runners (l .before .args .t1)) (l .loop .i) false) (getD (l .loop .self .jobs) (l .loop .i) freshJob)) =
-    rw (← l .before .pre .1) (a .aged .ensures ∙ ap aged (a .before .charged .ensures))
+    let e : a .aged .result ≡ aged (charged (getD (l .before .args .t2) (l .loop .i) false) (getD (l .loop .self .jobs) (l .loop .i) freshJob)) =
+    a .aged .ensures ∙ ap aged (a .before .charged .ensures)
     in (
       omega arith,
-      rw (c .settled .ensures, c .before .before .is-finished .ensures, c .before .is-late .ensures) (turned-more _ _ _ _ _ (l .loop .inv .1) (a .aged .result) e),
+      rw (c .settled .ensures, c .before .before .is-finished .ensures, c .before .is-late .ensures) (turned-more _ _ _ _ _ _ (l .loop .inv .1) (a .aged .result) e),
     )
 
 returns : tie.Need-returns Inv-loop μ-loop
 returns c =
     let s = c .before .before in
     let e : c .before .loop .i ≡ s .args .t1 .table .count = omega arith in
-    turned-all _ _ _ _ _ _ (rw e at (c .before .loop .inv .1)) (s .pre .1) (s .pre .2)
+    turned-all _ _ _ _ _ _ (rw e at (c .before .loop .inv .1)) (s .pre .1)
 
 pub passed-spec : {M : Type 1} → statement M
 passed-spec =

@@ -1,7 +1,7 @@
 -- `Machine::slot` meets its contract.
 use Prim.Native.Nat.{_≤_}
 use native.Mathlib.Omega.{arith}
-use mathlib.Core.Path.{_≡_, ap, _∙_}
+use mathlib.Core.Path.{_≡_, sym, ap, _∙_}
 use mathlib.Core.Bool.{true}
 use borrow.Author.Needs.{needs}
 use Rattle.laws.proofs.Booleans.{was-true, was-false}
@@ -11,6 +11,7 @@ use Rattle.machine.specs.Pick.{openCount, runnerCount, runners}
 use Rattle.machine.specs.Sound.{sound}
 use Rattle.machine.specs.Calls.{slot}
 use Rattle.machine.proofs.SoundLaws.{sound-passes}
+use Rattle.machine.proofs.RunnersLegal.{runners-number}
 use Rattle.machine.proofs.machine.Machine.slot.Statement.{statement}
 use Rattle.machine.proofs.machine.Machine.slot.Tie as tie
 
@@ -44,15 +45,19 @@ pick-requires c κs =
       rw (c .runner-count .ensures) (few (r .before .before .before .args .self)),
     )
 
-passed-requires : tie.Need-passed-requires
+-- who is picked are the machine's runners
+ran-are : (c : tie.After-pick) → c .pick .result ≡ runners (c .before .before .before .before .before .before .args .self)
 unfolding runners
+ran-are c = c .pick .ensures ∙ rw (c .before .runner-count .ensures)
+
+passed-requires : tie.Need-passed-requires
 passed-requires c κs =
-    let n = c .before .runner-count .ensures in
-    (fits (c .before .before .before .before), c .pick .ensures ∙ rw n, n)
+    let f = c .before .before .before .before in
+    (fits f, c .before .runner-count .ensures ∙ rw (ran-are c) (sym (runners-number _ (fits f))))
 
 returns-2 : tie.Need-returns-2
 unfolding slot
-returns-2 c = rw (is-sound (c .before .before .before .before .before)) (c .passed .ensures)
+returns-2 c = rw (is-sound (c .before .before .before .before .before), ← ran-are (c .before)) (c .passed .ensures)
 
 pub slot-spec : {M : Type 1} → statement M
 slot-spec =
