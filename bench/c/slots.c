@@ -1,8 +1,8 @@
 /*
  * The program bench_slots in plain C, with the machine kept in place: plays
- * many slots of the table on standard input and prints a checksum. Built with
- * CHECKED as 1, each call first tests that the machine is sound, as the proved
- * one does; with 0 it does not.
+ * many slots of the table on standard input, each on as many cores as the machine
+ * has, and prints a checksum. Built with CHECKED as 1, each call first tests that
+ * the machine is sound, as the proved one does; with 0 it does not.
  */
 #include <inttypes.h>
 #include <stdbool.h>
@@ -95,13 +95,13 @@ static size_t next_runner(const struct machine *machine, const bool *picked)
     return best;
 }
 
-/* Marks the tasks that run, and gives their number. */
-static uint32_t pick(const struct machine *machine, bool *ran)
+/* Marks the tasks that run on so many cores, and gives their number. */
+static uint32_t pick(const struct machine *machine, uint32_t cores, bool *ran)
 {
     uint32_t open = 0;
     for (size_t i = 0; i < machine->table.count; i++)
         open += machine->jobs[i].open;
-    uint32_t wanted = open < machine->cores ? open : machine->cores;
+    uint32_t wanted = open < cores ? open : cores;
     for (uint32_t found = 0; found < wanted; found++)
         ran[next_runner(machine, ran)] = true;
     return wanted;
@@ -124,12 +124,15 @@ static void pass(struct job *job, bool ran, bool *finished, bool *late)
     }
 }
 
-static void slot(struct machine *machine, struct report *report)
+/* A slot on so many cores, refused below the machine's own and above MAX_CORES. */
+static void slot(struct machine *machine, uint32_t cores, struct report *report)
 {
     *report = (struct report){0};
     if (CHECKED && !sound(machine))
         return;
-    report->runners = pick(machine, report->ran);
+    if (cores < machine->cores || cores > MAX_CORES)
+        return;
+    report->runners = pick(machine, cores, report->ran);
     for (size_t i = 0; i < machine->table.count; i++)
         pass(&machine->jobs[i], report->ran[i], &report->finished[i], &report->late[i]);
 }
@@ -155,7 +158,7 @@ static uint64_t play(struct machine *machine)
         for (size_t i = 0; i < machine->table.count; i++)
             if (machine->jobs[i].gap == 0 && !machine->jobs[i].open)
                 release(machine, i + 1);
-        slot(machine, &report);
+        slot(machine, machine->cores, &report);
         sum =
             folded(folded(folded(sum, mask(report.ran)), mask(report.finished)), mask(report.late));
     }

@@ -1,6 +1,6 @@
 //! An independent check of the table reader, the window test and the slot
-//! machine, written from document 01 alone and compared with the C entry and the
-//! programs.
+//! machine, written from document 01 and change 1 of document 02 alone and
+//! compared with the C entry and the programs.
 
 pub mod experiment;
 pub mod host;

@@ -1,5 +1,6 @@
 //! The dispatching machine: document 01, "The slot machine", with the refusals
-//! of "Why a call is not carried out".
+//! of "Why a call is not carried out", and change 1 of document 02: each slot
+//! names its cores.
 
 use crate::tasks::{MOST_CORES, MOST_TASKS, Refusal, Task};
 use crate::window::judge;
@@ -100,10 +101,13 @@ impl Machine {
         Ok(())
     }
 
-    /// One slot, its four steps in order. Refusal: 0.
-    pub fn slot(&mut self) -> Result<Slot, Refusal> {
+    /// One slot on k cores, its four steps in order. Refusals: 0, 14.
+    pub fn slot(&mut self, cores: u32) -> Result<Slot, Refusal> {
         self.check_soundness()?;
-        let picked = self.pick();
+        if !(self.cores..=MOST_CORES).contains(&cores) {
+            return Err(Refusal::whole(14));
+        }
+        let picked = self.pick(cores);
         // Step 2.
         for index in &picked {
             self.jobs[*index].budget -= 1;
@@ -136,12 +140,12 @@ impl Machine {
         Ok(())
     }
 
-    // Step 1: the first min(m, number open) open tasks in precedence, from 0.
-    fn pick(&self) -> Vec<usize> {
+    // Step 1: the first min(k, number open) open tasks in precedence, from 0.
+    fn pick(&self, cores: u32) -> Vec<usize> {
         let open = (0..self.jobs.len()).filter(|index| self.jobs[*index].open);
         let mut order: Vec<usize> = open.collect();
         order.sort_by_key(|index| self.precedence(*index));
-        order.truncate(usize::try_from(self.cores).expect("at most 16 cores"));
+        order.truncate(usize::try_from(cores).expect("at most 16 cores"));
         order
     }
 

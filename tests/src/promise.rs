@@ -1,6 +1,8 @@
 //! Demand 3 (document 01, "Demand 3 is a single claim about the whole list of
-//! calls"), read from a script and its printed answers alone: on an admitted
-//! table no slot reports a late job, and each released job is closed in time.
+//! calls", with change 1 of document 02), read from a script and its printed
+//! answers alone: on an admitted table, whatever k each slot names, no slot
+//! reports a late job, and each released job is closed in time. A refused slot
+//! is no slot in anybody's D.
 
 use crate::reading::read;
 use crate::script::{Call, Script};
@@ -8,12 +10,16 @@ use crate::tasks::Task;
 use crate::window::judge;
 
 /// How many released jobs were closed by running and by a finish, and how many
-/// were still open when the calls ended before the deadline.
+/// were still open when the calls ended before the deadline. Of the closed ones,
+/// how many saw a refused slot since their release, and how many saw more than D
+/// slots with the refused ones: too late, if those were slots in D.
 #[derive(Clone, Copy, Debug, Default, PartialEq, Eq)]
 pub struct Kept {
     pub by_running: u64,
     pub by_a_finish: u64,
     pub undecided: u64,
+    pub past_refused_slots: u64,
+    pub too_late_if_counted: u64,
 }
 
 // A job of an accepted release that is not closed yet.
@@ -23,6 +29,8 @@ struct Watch {
     runs: u32,
     // Accepted slots up to and including the D-th after the release.
     slots: u32,
+    // Refused slots since the release.
+    refused_slots: u32,
 }
 
 // The four numbers of an accepted slot.
@@ -52,7 +60,9 @@ pub fn check(script: &Script, printed: &str) -> Result<Kept, String> {
             break;
         }
         let answer = answers.next().ok_or(format!("call {place}: no answer"))?;
-        if !answer.starts_with("REFUSED ") {
+        if answer.starts_with("REFUSED ") {
+            record.refuse(*call);
+        } else {
             let fault = record.accept(*call, answer);
             fault.map_err(|fault| format!("call {place}: {fault}"))?;
         }
@@ -70,7 +80,7 @@ struct Record {
 
 impl Record {
     fn accept(&mut self, call: Call, answer: &str) -> Result<(), String> {
-        if call == Call::Slot {
+        if matches!(call, Call::Slot(_)) {
             return self.slot(&numbers(answer)?);
         }
         if answer != "DONE" {
@@ -80,9 +90,18 @@ impl Record {
             Call::Release(number) => self.release(number)?,
             Call::Finish(number) => self.finish(number),
             Call::Join(task) => self.table.push(task),
-            Call::Slot | Call::Bad(_) => {}
+            Call::Slot(_) | Call::Bad(_) => {}
         }
         Ok(())
+    }
+
+    // A refused slot is noted and counts for nothing else.
+    fn refuse(&mut self, call: Call) {
+        if matches!(call, Call::Slot(_)) {
+            for watch in &mut self.open {
+                watch.refused_slots += 1;
+            }
+        }
     }
 
     fn release(&mut self, number: u32) -> Result<(), String> {
@@ -93,16 +112,14 @@ impl Record {
             number,
             runs: task.budget,
             slots: task.deadline,
+            refused_slots: 0,
         });
         Ok(())
     }
 
     // An accepted finish closes the jobs released before it.
     fn finish(&mut self, number: u32) {
-        let before = self.open.len();
-        self.open.retain(|watch| watch.number != number);
-        let closed = before - self.open.len();
-        self.kept.by_a_finish += u64::try_from(closed).expect("a count of 64 bits");
+        self.kept.by_a_finish += self.close(|watch| watch.number == number);
     }
 
     // No late job, and no job still open after its D-th slot.
@@ -110,14 +127,22 @@ impl Record {
         if printed.late != 0 {
             return Err(format!("late jobs, {}", printed.late));
         }
-        let before = self.open.len();
-        self.open.retain_mut(|watch| !watch.is_closed_by(printed));
-        let closed = before - self.open.len();
-        self.kept.by_running += u64::try_from(closed).expect("a count of 64 bits");
+        self.kept.by_running += self.close(|watch| watch.is_closed_by(printed));
         match self.open.iter().find(|watch| watch.slots == 0) {
             Some(watch) => Err(format!("a job of task {} is not closed", watch.number)),
             None => Ok(()),
         }
+    }
+
+    // Takes out the jobs that are closed now, and gives their number.
+    fn close(&mut self, is_closed: impl FnMut(&mut Watch) -> bool) -> u64 {
+        let mut closed = 0;
+        for watch in self.open.extract_if(.., is_closed) {
+            closed += 1;
+            self.kept.past_refused_slots += u64::from(watch.refused_slots > 0);
+            self.kept.too_late_if_counted += u64::from(watch.refused_slots > watch.slots);
+        }
+        closed
     }
 }
 

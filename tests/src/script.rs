@@ -1,5 +1,6 @@
 //! Scripts for the program that replays calls: the number of cores, a table as
-//! text and a list of calls, with the answers that document 01 expects.
+//! text and a list of calls, with the answers that document 01 expects, and
+//! change 1 of document 02.
 
 use std::fmt;
 
@@ -15,7 +16,8 @@ pub const MOST_SCRIPT_BYTES: usize = 65_536;
 pub enum Call {
     Release(u32),
     Finish(u32),
-    Slot,
+    /// A slot with its number of cores, k.
+    Slot(u32),
     Join(Task),
     /// A line that is no call.
     Bad(&'static str),
@@ -44,7 +46,7 @@ impl fmt::Display for Call {
         match self {
             Call::Release(number) => write!(line, "RELEASE {number}"),
             Call::Finish(number) => write!(line, "FINISH {number}"),
-            Call::Slot => write!(line, "SLOT"),
+            Call::Slot(cores) => write!(line, "SLOT {cores}"),
             Call::Join(task) => {
                 let Task {
                     period,
@@ -127,7 +129,7 @@ pub fn carry_out(machine: &mut Machine, call: Call) -> Answer {
     let answer = match call {
         Call::Release(number) => machine.release(number).map(|()| Answer::Done),
         Call::Finish(number) => machine.finish(number).map(|()| Answer::Done),
-        Call::Slot => machine.slot().map(Answer::Ran),
+        Call::Slot(cores) => machine.slot(cores).map(Answer::Ran),
         Call::Join(task) => machine.join(task).map(|()| Answer::Done),
         Call::Bad(line) => panic!("no call: {line}"),
     };

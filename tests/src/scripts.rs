@@ -13,8 +13,8 @@ use crate::window::judge;
 /// The most calls of one script.
 pub const MOST_CALLS: usize = 1_000;
 
-// How often each kind of call comes, out of 64; the rest are slots. A release
-// for which no task is due becomes a slot.
+// How often each kind of call comes, out of 64; the rest are slots. A call for
+// which there is no task, such as a release when none is due, becomes a slot.
 #[derive(Clone, Copy)]
 struct Rates {
     release: usize,
@@ -30,11 +30,37 @@ const SPARSE: Rates = rates(8, 3, 1, 4);
 const WILD: Rates = rates(16, 10, 6, 16);
 const JOINING: Rates = rates(16, 2, 24, 4);
 
+// How often a slot names more cores than m, and how often a number that is
+// refused, out of 64; the rest name m.
+#[derive(Clone, Copy)]
+struct CoreRates {
+    more: usize,
+    refused: usize,
+}
+
+const STEADY: CoreRates = core_rates(2, 2);
+const MIXED: CoreRates = core_rates(16, 4);
+const AMPLE: CoreRates = core_rates(56, 4);
+const REFUSING: CoreRates = core_rates(8, 32);
+
+// Steady most of the time: where every slot has cores to spare, no job competes.
+const CORE_RATES: [CoreRates; 8] = [
+    STEADY, STEADY, STEADY, STEADY, MIXED, MIXED, AMPLE, REFUSING,
+];
+
 // Lines that are no call by the format: other words, counts, digits and bytes.
-const BAD_LINES: [&str; 16] = [
-    "SLOTS",
-    "slot",
-    "SLOT 1",
+const BAD_LINES: [&str; 24] = [
+    "SLOTS 2",
+    "slot 2",
+    "SLOT",
+    "SLOT ",
+    "SLOT x",
+    "SLOT -1",
+    "SLOT 02",
+    "SLOT 2 ",
+    "SLOT  2",
+    "SLOT 2 2",
+    "SLOT 4294967296",
     "RELEASE",
     "RELEASE x",
     "RELEASE -1",
@@ -204,9 +230,11 @@ fn with_calls(random: &mut Random, cores: u32, table: Vec<u8>, rates: Rates) -> 
     let tasks = read(&table).unwrap_or_else(|_| vec![light(random)]);
     let chosen = cores.clamp(1, MOST_CORES);
     let mut machine = Machine::start(&tasks, chosen).expect("a table on 1 to 16 cores");
+    let core_rates = random.pick(&CORE_RATES);
     let mut calls = Vec::new();
     for _ in 0..length(random) {
         let call = next(random, &machine, rates);
+        let call = call.unwrap_or_else(|| Call::Slot(cores_of_slot(random, chosen, core_rates)));
         carry_out(&mut machine, call);
         calls.push(call);
     }
@@ -226,7 +254,8 @@ fn length(random: &mut Random) -> usize {
     }
 }
 
-fn next(random: &mut Random, machine: &Machine, rates: Rates) -> Call {
+// Any call but a slot, or none for a slot.
+fn next(random: &mut Random, machine: &Machine, rates: Rates) -> Option<Call> {
     let release = rates.release;
     let finish = release + rates.finish;
     let join = finish + rates.join;
@@ -234,20 +263,49 @@ fn next(random: &mut Random, machine: &Machine, rates: Rates) -> Call {
     match random.below(64) {
         roll if roll < release => release_due(random, machine),
         roll if roll < finish => finish_open(random, machine),
-        roll if roll < join => Call::Join(joining(random, machine)),
+        roll if roll < join => Some(Call::Join(joining(random, machine))),
         roll if roll < odd => odd_call(random, machine),
-        _ => Call::Slot,
+        _ => None,
     }
 }
 
-fn release_due(random: &mut Random, machine: &Machine) -> Call {
+fn release_due(random: &mut Random, machine: &Machine) -> Option<Call> {
     let due = some_task(random, machine, |job| !job.open && job.gap == 0);
-    due.map_or(Call::Slot, Call::Release)
+    due.map(Call::Release)
 }
 
-fn finish_open(random: &mut Random, machine: &Machine) -> Call {
+fn finish_open(random: &mut Random, machine: &Machine) -> Option<Call> {
     let open = some_task(random, machine, |job| job.open);
-    open.map_or(Call::Slot, Call::Finish)
+    open.map(Call::Finish)
+}
+
+// The k of one slot on a machine of m cores.
+fn cores_of_slot(random: &mut Random, m: u32, rates: CoreRates) -> u32 {
+    match random.below(64) {
+        roll if roll < rates.more => more_cores(random, m),
+        roll if roll < rates.more + rates.refused => no_cores(random, m),
+        _ => m,
+    }
+}
+
+// One core more than m, all 16, or any number that is accepted.
+fn more_cores(random: &mut Random, m: u32) -> u32 {
+    let next = (m + 1).min(MOST_CORES);
+    let any = random.between(m, MOST_CORES);
+    random.pick(&[next, next, MOST_CORES, any])
+}
+
+// Numbers that are not m to 16: the neighbours, the ends of 32 bits, and some
+// that a cut to fewer bits or a wrap would bring back into it.
+fn no_cores(random: &mut Random, m: u32) -> u32 {
+    let accepted = random.between(m, MOST_CORES);
+    let cut = random.pick(&[32, 128, 256, 65_536, 1 << 31]) + accepted;
+    let negative = accepted.wrapping_neg();
+    let below = random.between(0, m - 1);
+    let far = random.between(MOST_CORES + 1, u32::MAX);
+    let near = random.pick(&[0, m - 1, MOST_CORES + 1]);
+    let back = random.pick(&[256 + m, 65_536 + m, cut, negative]);
+    random.pick(&[near, near, back, back, below, far, u32::MAX])
 }
 
 // The number of a task whose job is so, if there is one.
@@ -270,17 +328,17 @@ fn joining(random: &mut Random, machine: &Machine) -> Task {
 
 // Calls that are refused most of the time: too soon, of a closed or of no task,
 // or a join that breaks the limits.
-fn odd_call(random: &mut Random, machine: &Machine) -> Call {
+fn odd_call(random: &mut Random, machine: &Machine) -> Option<Call> {
     let held = u32::try_from(machine.table.len()).expect("at most 32 tasks");
     let any = random.between(1, held);
     match random.below(8) {
-        0 | 1 => Call::Release(any),
-        2 => some_task(random, machine, |job| job.gap > 0).map_or(Call::Slot, Call::Release),
-        3 => some_task(random, machine, |job| !job.open).map_or(Call::Slot, Call::Finish),
-        4 => Call::Finish(any),
-        5 => Call::Release(no_task(random, held)),
-        6 => Call::Finish(no_task(random, held)),
-        _ => Call::Join(odd_task(random)),
+        0 | 1 => Some(Call::Release(any)),
+        2 => some_task(random, machine, |job| job.gap > 0).map(Call::Release),
+        3 => some_task(random, machine, |job| !job.open).map(Call::Finish),
+        4 => Some(Call::Finish(any)),
+        5 => Some(Call::Release(no_task(random, held))),
+        6 => Some(Call::Finish(no_task(random, held))),
+        _ => Some(Call::Join(odd_task(random))),
     }
 }
 
@@ -319,4 +377,8 @@ const fn rates(release: usize, finish: usize, join: usize, odd: usize) -> Rates 
         join,
         odd,
     }
+}
+
+const fn core_rates(more: usize, refused: usize) -> CoreRates {
+    CoreRates { more, refused }
 }

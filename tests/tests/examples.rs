@@ -35,7 +35,7 @@ fn tables() {
 fn scripts() {
     check_script(
         "calls.replay",
-        "DONE\nDONE\nDONE\n7 1 0 3\nREFUSED 9\nDONE\nDONE\nDONE\n12 8 0 2\nREFUSED 5\n4 0 0 1\n",
+        "DONE\nDONE\nDONE\n7 1 0 3\nREFUSED 9\nDONE\nDONE\nDONE\nREFUSED 14\n12 8 0 2\nREFUSED 5\n4 0 0 1\n",
     );
     check_script(
         "case_j.replay",
@@ -43,7 +43,7 @@ fn scripts() {
     );
     check_script(
         "refusals.replay",
-        "REFUSED 8\nREFUSED 8\nREFUSED 11\nDONE\nREFUSED 9\nDONE\nREFUSED 11\nREFUSED 9\nREFUSED 5\nREFUSED 13\n0 0 0 0\n",
+        "REFUSED 8\nREFUSED 8\nREFUSED 11\nDONE\nREFUSED 9\nDONE\nREFUSED 11\nREFUSED 9\nREFUSED 5\nREFUSED 13\nREFUSED 14\nREFUSED 14\n0 0 0 0\n",
     );
 }
 

@@ -16,7 +16,7 @@ const SETTLED: [Case; 9] = [
         "CORES 0\nPERIOD BUDGET DEADLINE\n4 1 4\nCALLS\n",
         "REFUSED 7\n",
     ),
-    ("an empty table", "CORES 1\nCALLS\nSLOT\n", "REFUSED 2\n"),
+    ("an empty table", "CORES 1\nCALLS\nSLOT 1\n", "REFUSED 2\n"),
     (
         "no calls",
         "CORES 1\nBUDGET PERIOD DEADLINE\n1 4 4\nCALLS\n",
@@ -24,17 +24,17 @@ const SETTLED: [Case; 9] = [
     ),
     (
         "a refused table",
-        "CORES 1\nPERIOD BUDGET DEADLINE\n4 5 4\nCALLS\nSLOT\n",
+        "CORES 1\nPERIOD BUDGET DEADLINE\n4 5 4\nCALLS\nSLOT 1\n",
         "REFUSED 5\n",
     ),
     (
         "a table without tasks",
-        "CORES 1\nPERIOD BUDGET DEADLINE\nCALLS\nSLOT\n",
+        "CORES 1\nPERIOD BUDGET DEADLINE\nCALLS\nSLOT 1\n",
         "REFUSED 6\n",
     ),
     (
         "17 cores",
-        "CORES 17\nPERIOD BUDGET DEADLINE\n4 1 4\nCALLS\nSLOT\n",
+        "CORES 17\nPERIOD BUDGET DEADLINE\n4 1 4\nCALLS\nSLOT 17\n",
         "REFUSED 7\n",
     ),
     (
@@ -56,20 +56,19 @@ const SETTLED: [Case; 9] = [
 
 // Calls after START: the first one is line 6.
 const START: &str = "CORES 1\nPERIOD BUDGET DEADLINE\n4 1 4\n6 2 5\nCALLS\n";
-const SETTLED_CALLS: [Case; 20] = [
+const SETTLED_CALLS: [Case; 19] = [
     ("task 0", "RELEASE 0\nFINISH 0\n", "REFUSED 8\nREFUSED 8\n"),
     ("a task of zeros", "JOIN 0 0 0\n", "REFUSED 5\n"),
     (
         "another word",
-        "SLOT\nSTOP\nSLOT\n",
+        "SLOT 1\nSTOP\nSLOT 1\n",
         "0 0 0 0\nBAD LINE 7\n",
     ),
-    ("lower case", "SLOT\nslot\n", "0 0 0 0\nBAD LINE 7\n"),
-    ("a letter more", "SLOTS\n", "BAD LINE 6\n"),
+    ("lower case", "SLOT 1\nrelease 1\n", "0 0 0 0\nBAD LINE 7\n"),
+    ("a letter more", "SLOTS 1\n", "BAD LINE 6\n"),
     ("a letter less", "RELEAS 1\n", "BAD LINE 6\n"),
     ("no number", "RELEASE\n", "BAD LINE 6\n"),
     ("two numbers", "RELEASE 1 2\n", "BAD LINE 6\n"),
-    ("a number for a slot", "SLOT 1\n", "BAD LINE 6\n"),
     ("two values of a task", "JOIN 4 1\n", "BAD LINE 6\n"),
     ("four values of a task", "JOIN 4 1 4 4\n", "BAD LINE 6\n"),
     ("a leading zero", "RELEASE 01\n", "BAD LINE 6\n"),
@@ -87,6 +86,45 @@ const SETTLED_CALLS: [Case; 20] = [
     ),
 ];
 
+// Slots after START, each with its number of cores, k: 1 to 16 are accepted.
+const SETTLED_SLOTS: [Case; 23] = [
+    ("slot, no number", "SLOT\n", "BAD LINE 6\n"),
+    ("slot, a space and no number", "SLOT \n", "BAD LINE 6\n"),
+    ("slot, a trailing space", "SLOT 2 \n", "BAD LINE 6\n"),
+    ("slot, two spaces", "SLOT  2\n", "BAD LINE 6\n"),
+    ("slot, no space", "SLOT2\n", "BAD LINE 6\n"),
+    ("slot, a tab", "SLOT\t2\n", "BAD LINE 6\n"),
+    ("slot, two numbers", "SLOT 2 2\n", "BAD LINE 6\n"),
+    ("slot, a leading zero", "SLOT 02\n", "BAD LINE 6\n"),
+    ("slot, two zeros", "SLOT 00\n", "BAD LINE 6\n"),
+    ("slot, a sign", "SLOT +2\n", "BAD LINE 6\n"),
+    ("slot, below 0", "SLOT -1\n", "BAD LINE 6\n"),
+    ("slot, no digit", "SLOT k\n", "BAD LINE 6\n"),
+    ("slot, above 32 bits", "SLOT 4294967296\n", "BAD LINE 6\n"),
+    ("slot, 1 above 32 bits", "SLOT 4294967297\n", "BAD LINE 6\n"),
+    ("slot, 11 digits", "SLOT 10000000000\n", "BAD LINE 6\n"),
+    ("slot, lower case", "slot 2\n", "BAD LINE 6\n"),
+    ("slot, 0 cores", "SLOT 0\n", "REFUSED 14\n"),
+    ("slot, 16 cores", "SLOT 16\n", "0 0 0 0\n"),
+    ("slot, 17 cores", "SLOT 17\n", "REFUSED 14\n"),
+    ("slot, 10 digits", "SLOT 1000000000\n", "REFUSED 14\n"),
+    (
+        "slot, the largest number",
+        "SLOT 4294967295\n",
+        "REFUSED 14\n",
+    ),
+    (
+        "calls after a refused slot",
+        "SLOT 0\nRELEASE 1\nSLOT 1\n",
+        "REFUSED 14\nDONE\n1 1 0 1\n",
+    ),
+    (
+        "a bad line after a refused slot",
+        "SLOT 17\nSLOT\nSLOT 1\n",
+        "REFUSED 14\nBAD LINE 7\n",
+    ),
+];
+
 // The most natural readings of what the format does not say: whole scripts.
 const UNSETTLED: [Case; 13] = [
     ("nothing", "", "BAD LINE 1\n"),
@@ -94,7 +132,7 @@ const UNSETTLED: [Case; 13] = [
     ("CORES alone", "CORES 1\n", "BAD LINE 2\n"),
     (
         "no CORES line",
-        "PERIOD BUDGET DEADLINE\n4 1 4\nCALLS\nSLOT\n",
+        "PERIOD BUDGET DEADLINE\n4 1 4\nCALLS\nSLOT 1\n",
         "BAD LINE 1\n",
     ),
     (
@@ -146,13 +184,21 @@ const UNSETTLED: [Case; 13] = [
 
 // The same for calls after START.
 const UNSETTLED_CALLS: [Case; 7] = [
-    ("CALLS twice", "SLOT\nCALLS\n", "0 0 0 0\nBAD LINE 7\n"),
+    ("CALLS twice", "SLOT 1\nCALLS\n", "0 0 0 0\nBAD LINE 7\n"),
     ("two zeros", "RELEASE 00\n", "BAD LINE 6\n"),
-    ("an empty line", "SLOT\n\nSLOT\n", "0 0 0 0\nBAD LINE 7\n"),
-    ("a line not ended", "SLOT\nSLOT", "0 0 0 0\nBAD LINE 7\n"),
-    ("byte 13", "SLOT\r\n", "BAD LINE 6\n"),
+    (
+        "an empty line",
+        "SLOT 1\n\nSLOT 1\n",
+        "0 0 0 0\nBAD LINE 7\n",
+    ),
+    (
+        "a line not ended",
+        "SLOT 1\nSLOT 1",
+        "0 0 0 0\nBAD LINE 7\n",
+    ),
+    ("byte 13", "SLOT 1\r\n", "BAD LINE 6\n"),
     ("a trailing space", "RELEASE 1 \n", "BAD LINE 6\n"),
-    ("a leading space", " SLOT\n", "BAD LINE 6\n"),
+    ("a leading space", " SLOT 1\n", "BAD LINE 6\n"),
 ];
 
 // What a script of more than 65,536 bytes prints.
@@ -173,6 +219,7 @@ fn check(start: &str, cases: &[Case]) {
 fn settled_details() {
     check("", &SETTLED);
     check(START, &SETTLED_CALLS);
+    check(START, &SETTLED_SLOTS);
 }
 
 #[test]
@@ -187,16 +234,16 @@ fn a_table_of_4096_bytes_and_one_more() {
     let tasks = format!("PERIOD BUDGET DEADLINE\n{}", "4 1 4\n".repeat(32));
     for (length, expected) in [(4_096, "REFUSED 3\n"), (4_097, "REFUSED 1\n")] {
         let filling = "x".repeat(length - 1 - tasks.len());
-        let script = format!("CORES 17\n{tasks}{filling}\nCALLS\nSLOT\n");
+        let script = format!("CORES 17\n{tasks}{filling}\nCALLS\nSLOT 17\n");
         assert_eq!(printed(&script), expected, "{length} bytes");
     }
 }
 
 #[test]
 fn a_script_of_65536_bytes_and_one_more() {
-    let start = "CORES 1\nPERIOD BUDGET DEADLINE\n4000 1 4\nCALLS\n";
-    let slots = (MOST_SCRIPT_BYTES - start.len()) / "SLOT\n".len();
-    let script = format!("{start}{}", "SLOT\n".repeat(slots));
+    let start = "CORES 1\nPERIOD BUDGET DEADLINE\n40 1 4\nCALLS\n";
+    let slots = (MOST_SCRIPT_BYTES - start.len()) / "SLOT 1\n".len();
+    let script = format!("{start}{}", "SLOT 1\n".repeat(slots));
     assert_eq!(script.len(), MOST_SCRIPT_BYTES);
     assert!(printed(&script) == "0 0 0 0\n".repeat(slots));
     assert!(printed(&format!("{script}\n")) == UNSETTLED_LENGTH);

@@ -35,7 +35,7 @@ fn refusals(machine: &Machine) -> [Option<u32>; 4] {
     [
         machine.clone().release(2).err().map(number),
         machine.clone().finish(2).err().map(number),
-        machine.clone().slot().err().map(number),
+        machine.clone().slot(0).err().map(number),
         machine.clone().join(Task::new(9, 0, 5)).err().map(number),
     ]
 }
@@ -82,8 +82,45 @@ fn sound_machines_at_the_limits() {
         job(true, 1, 2, 9),
     ];
     for job in sound {
-        let expected = [Some(8), Some(8), None, Some(5)];
+        let expected = [Some(8), Some(8), Some(14), Some(5)];
         assert_eq!(refusals(&machine(job)), expected, "{job:?}");
+        assert!(machine(job).slot(1).is_ok(), "{job:?}");
+    }
+}
+
+// Number 14: k below m or above 16, whether or not a job is open.
+#[test]
+fn number_14_leaves_the_machine() {
+    let fresh = Machine::start(&[Task::new(9, 2, 5)], 3).expect("a start");
+    let mut released = fresh.clone();
+    released.release(1).expect("a release");
+    for before in [fresh, released] {
+        for cores in [0, 1, 2, 17, 18, 256 + 3, 65_536 + 3, u32::MAX] {
+            let mut machine = before.clone();
+            assert_eq!(machine.slot(cores), Err(Refusal::whole(14)), "k = {cores}");
+            assert_eq!(machine, before, "k = {cores}");
+        }
+        for cores in 3..=16 {
+            assert!(before.clone().slot(cores).is_ok(), "k = {cores}");
+        }
+    }
+}
+
+// More cores than open tasks run them all, whatever m is.
+#[test]
+fn runners_of_a_slot() {
+    let mut machine = Machine::start(&[Task::new(9, 2, 5); 5], 2).expect("a start");
+    for number in [1, 3, 4] {
+        machine.release(number).expect("a release");
+    }
+    for (cores, ran, runners) in [
+        (2, 0b101, 2),
+        (3, 0b1101, 3),
+        (4, 0b1101, 3),
+        (16, 0b1101, 3),
+    ] {
+        let slot = machine.clone().slot(cores).expect("a slot");
+        assert_eq!((slot.ran, slot.runners), (ran, runners), "k = {cores}");
     }
 }
 
@@ -129,7 +166,7 @@ fn starts() {
 #[test]
 fn the_four_steps_of_a_slot() {
     let mut machine = machine(job(true, 1, 1, 5));
-    let slot = machine.slot().expect("a slot");
+    let slot = machine.slot(1).expect("a slot");
     assert_eq!((slot.ran, slot.finished, slot.late), (1, 1, 0));
     assert_eq!(machine.jobs, [job(false, 0, 0, 4)]);
 }

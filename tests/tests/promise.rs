@@ -8,6 +8,11 @@ use edzl_tests::texts::{ORDERS, write};
 
 use Call::{Finish, Join, Release, Slot};
 
+// A slot on m cores, and those on one core fewer than m and one more than 16.
+const SLOT: Call = Slot(2);
+const BELOW: Call = Slot(1);
+const ABOVE: Call = Slot(17);
+
 // Tasks of T 6, C 2, D 4 and T 6, C 1, D 3, admitted on 2 cores.
 fn script(calls: &[Call]) -> Script {
     let script = Script {
@@ -24,6 +29,7 @@ fn kept(by_running: u64, by_a_finish: u64, undecided: u64) -> Result<Kept, Strin
         by_running,
         by_a_finish,
         undecided,
+        ..Kept::default()
     })
 }
 
@@ -33,7 +39,7 @@ fn broken(place: usize, fault: &str) -> Result<Kept, String> {
 
 #[test]
 fn jobs_closed_in_time() {
-    let once = script(&[Release(1), Slot, Slot, Slot, Slot]);
+    let once = script(&[Release(1), SLOT, SLOT, SLOT, SLOT]);
     let at_once = "DONE\n1 0 0 1\n1 1 0 1\n0 0 0 0\n0 0 0 0\n";
     let at_last = "DONE\n0 0 0 0\n0 0 0 0\n1 0 0 1\n1 1 0 1\n";
     assert_eq!(check(&once, at_once), kept(1, 0, 0));
@@ -42,7 +48,7 @@ fn jobs_closed_in_time() {
 
 #[test]
 fn jobs_closed_by_a_finish() {
-    let calls = [Release(1), Release(2), Slot, Finish(1), Slot, Slot, Slot];
+    let calls = [Release(1), Release(2), SLOT, Finish(1), SLOT, SLOT, SLOT];
     let printed = "DONE\nDONE\n1 0 0 1\nDONE\n2 2 0 1\n0 0 0 0\n0 0 0 0\n";
     assert_eq!(check(&script(&calls), printed), kept(1, 1, 0));
     // A refused finish closes nothing.
@@ -53,7 +59,7 @@ fn jobs_closed_by_a_finish() {
 
 #[test]
 fn too_few_slots_decide_nothing() {
-    let calls = [Release(1), Slot, Slot, Slot];
+    let calls = [Release(1), SLOT, SLOT, SLOT];
     let printed = "DONE\n0 0 0 0\n0 0 0 0\n0 0 0 0\n";
     assert_eq!(check(&script(&calls), printed), kept(0, 0, 1));
     assert_eq!(check(&script(&[]), ""), kept(0, 0, 0));
@@ -61,14 +67,14 @@ fn too_few_slots_decide_nothing() {
 
 #[test]
 fn a_late_job() {
-    let calls = [Release(2), Slot, Slot, Slot];
+    let calls = [Release(2), SLOT, SLOT, SLOT];
     let printed = "DONE\n0 0 0 0\n0 0 0 0\n0 0 2 0\n";
     assert_eq!(check(&script(&calls), printed), broken(4, "late jobs, 2"));
 }
 
 #[test]
 fn a_machine_that_runs_nobody() {
-    let calls = [Release(2), Slot, Slot, Slot];
+    let calls = [Release(2), SLOT, SLOT, SLOT];
     let printed = "DONE\n0 0 0 0\n0 0 0 0\n0 0 0 0\n";
     let expected = broken(4, "a job of task 2 is not closed");
     assert_eq!(check(&script(&calls), printed), expected);
@@ -76,7 +82,7 @@ fn a_machine_that_runs_nobody() {
 
 #[test]
 fn a_job_finished_before_its_budget() {
-    let calls = [Release(1), Slot, Slot, Slot, Slot];
+    let calls = [Release(1), SLOT, SLOT, SLOT, SLOT];
     let printed = "DONE\n1 1 0 1\n0 0 0 0\n0 0 0 0\n0 0 0 0\n";
     let expected = broken(5, "a job of task 1 is not closed");
     assert_eq!(check(&script(&calls), printed), expected);
@@ -84,7 +90,7 @@ fn a_job_finished_before_its_budget() {
 
 #[test]
 fn a_job_that_runs_and_does_not_finish() {
-    let calls = [Release(1), Slot, Slot, Slot, Slot];
+    let calls = [Release(1), SLOT, SLOT, SLOT, SLOT];
     let printed = "DONE\n1 0 0 1\n1 0 0 1\n1 1 0 1\n0 0 0 0\n";
     let expected = broken(5, "a job of task 1 is not closed");
     assert_eq!(check(&script(&calls), printed), expected);
@@ -93,7 +99,7 @@ fn a_job_that_runs_and_does_not_finish() {
 // A finish or a run before the release plays no part.
 #[test]
 fn only_calls_after_the_release_count() {
-    let calls = [Slot, Finish(2), Release(2), Slot, Slot, Slot];
+    let calls = [SLOT, Finish(2), Release(2), SLOT, SLOT, SLOT];
     let printed = "2 2 0 1\nDONE\nDONE\n0 0 0 0\n0 0 0 0\n0 0 0 0\n";
     let expected = broken(6, "a job of task 2 is not closed");
     assert_eq!(check(&script(&calls), printed), expected);
@@ -106,8 +112,8 @@ fn joined_tasks() {
         Join(Task::new(9, 9, 9)),
         Join(Task::new(7, 1, 2)),
         Release(3),
-        Slot,
-        Slot,
+        SLOT,
+        SLOT,
     ];
     let printed = "REFUSED 13\nDONE\nDONE\n0 0 0 0\n4 4 0 1\n";
     assert_eq!(check(&script(&calls), printed), kept(1, 0, 0));
@@ -119,9 +125,76 @@ fn joined_tasks() {
     assert_eq!(check(&script(&calls), &without), expected);
 }
 
+// What a check would read that took refused slots for slots in which nobody ran.
+fn counted(printed: &str) -> String {
+    printed.replace("REFUSED 14", "0 0 0 0")
+}
+
+// The job is closed by its fourth accepted slot, the sixth with the refused ones.
+#[test]
+fn refused_slots_are_no_slots_in_d() {
+    let calls = [Release(1), SLOT, BELOW, SLOT, ABOVE, SLOT, SLOT];
+    let printed = "DONE\n0 0 0 0\nREFUSED 14\n0 0 0 0\nREFUSED 14\n1 0 0 1\n1 1 0 1\n";
+    let expected = Kept {
+        by_running: 1,
+        past_refused_slots: 1,
+        too_late_if_counted: 1,
+        ..Kept::default()
+    };
+    assert_eq!(check(&script(&calls), printed), Ok(expected));
+    let expected = broken(5, "a job of task 1 is not closed");
+    assert_eq!(check(&script(&calls), &counted(printed)), expected);
+}
+
+// Three accepted slots of four decide nothing, however many are refused.
+#[test]
+fn refused_slots_decide_nothing() {
+    let calls = [Release(1), SLOT, SLOT, SLOT, BELOW, ABOVE];
+    let printed = "DONE\n0 0 0 0\n0 0 0 0\n0 0 0 0\nREFUSED 14\nREFUSED 14\n";
+    assert_eq!(check(&script(&calls), printed), kept(0, 0, 1));
+    let expected = broken(5, "a job of task 1 is not closed");
+    assert_eq!(check(&script(&calls), &counted(printed)), expected);
+}
+
+// The fourth accepted slot decides, wherever refused ones stand.
+#[test]
+fn a_job_not_closed_past_refused_slots() {
+    let calls = [Release(1), BELOW, SLOT, SLOT, ABOVE, SLOT, SLOT];
+    let printed = "DONE\nREFUSED 14\n1 0 0 1\n0 0 0 0\nREFUSED 14\n0 0 0 0\n0 0 0 0\n";
+    let expected = broken(7, "a job of task 1 is not closed");
+    assert_eq!(check(&script(&calls), printed), expected);
+}
+
+// Only those between a job's release and its closing are noted of it.
+#[test]
+fn refused_slots_before_and_after_a_job() {
+    let calls = [ABOVE, Release(2), SLOT, BELOW, Release(1), SLOT, SLOT];
+    let printed = "REFUSED 14\nDONE\n2 2 0 1\nREFUSED 14\nDONE\n1 0 0 1\n1 1 0 1\n";
+    assert_eq!(check(&script(&calls), printed), kept(2, 0, 0));
+    let calls = [Release(1), SLOT, BELOW, Finish(1)];
+    let expected = Kept {
+        by_a_finish: 1,
+        past_refused_slots: 1,
+        ..Kept::default()
+    };
+    let printed = "DONE\n1 0 0 1\nREFUSED 14\nDONE\n";
+    assert_eq!(check(&script(&calls), printed), Ok(expected));
+}
+
+// A slot counts whatever k it names.
+#[test]
+fn slots_of_more_cores() {
+    let calls = [Release(1), Slot(16), Slot(3), SLOT, Slot(16)];
+    let printed = "DONE\n0 0 0 0\n0 0 0 0\n1 0 0 1\n1 1 0 1\n";
+    assert_eq!(check(&script(&calls), printed), kept(1, 0, 0));
+    let idle = printed.replacen("1 1 0 1", "0 0 0 0", 1);
+    let expected = broken(5, "a job of task 1 is not closed");
+    assert_eq!(check(&script(&calls), &idle), expected);
+}
+
 #[test]
 fn answers_of_another_form() {
-    let calls = [Release(1), Slot];
+    let calls = [Release(1), SLOT];
     assert_eq!(check(&script(&calls), "DONE\n"), broken(2, "no answer"));
     let expected = broken(2, "no answer of a slot: DONE");
     assert_eq!(check(&script(&calls), "DONE\nDONE\n"), expected);

@@ -18,7 +18,7 @@ const SCRIPTS: u64 = 20_000;
 
 // Every kind of answer that can happen, and no other may: number 10 is among
 // the others, because an open job's gap is never 0.
-const KINDS: [&str; 19] = [
+const KINDS: [&str; 20] = [
     "CALLS BAD LINE",
     "FINISH DONE",
     "FINISH REFUSED 11",
@@ -31,6 +31,7 @@ const KINDS: [&str; 19] = [
     "RELEASE REFUSED 8",
     "RELEASE REFUSED 9",
     "SLOT",
+    "SLOT REFUSED 14",
     "TABLE REFUSED 1",
     "TABLE REFUSED 2",
     "TABLE REFUSED 3",
@@ -42,14 +43,25 @@ const KINDS: [&str; 19] = [
 
 // What must happen among them, and nothing else may: no late job on an admitted
 // table, and no accepted join on a refused one.
-const EVENTS: [&str; 13] = [
+const EVENTS: [&str; 24] = [
     "a finish before the job ran",
     "a finish of a job that ran",
     "a job closed by a finish in time, table admitted",
     "a job closed by running in time, table admitted",
+    "a job closed in time past a refused slot, table admitted",
+    "a job closed in time, too late if refused slots counted, table admitted",
     "a job open at the last call, table admitted",
     "a late job, table refused",
+    "a refused slot of k above 16 while a job is open",
+    "a refused slot of k below m while a job is open",
     "a slot of 16 runners",
+    "a slot of another k than the slot before",
+    "a slot of k = 16 above m and one open task",
+    "a slot of k = m and more open tasks",
+    "a slot of k above m and more open tasks",
+    "a slot of more open tasks than m and fewer than k",
+    "a slot of more than m runners, table admitted",
+    "a slot of more than m runners, table refused",
     "a slot of nobody",
     "a slot that reports finished and late jobs",
     "a table admitted",
@@ -95,7 +107,9 @@ impl Tally {
             Answer::Ran(slot) => Some(*slot),
             _ => None,
         });
-        slots.for_each(|slot| self.slot(slot, admitted));
+        slots.for_each(|slot| self.slot(slot, script.cores, admitted));
+        self.cores(script, answers);
+        self.changes_of_k(script, answers);
         self.finishes(script, answers);
         self.joins(script, answers, admitted);
     }
@@ -104,7 +118,7 @@ impl Tally {
         *self.kinds.entry(kind).or_default() += 1;
     }
 
-    fn slot(&mut self, slot: Slot, admitted: bool) {
+    fn slot(&mut self, slot: Slot, m: u32, admitted: bool) {
         let names = ["a late job, table refused", "a late job, table admitted"];
         let late = u64::from(slot.late.count_ones());
         self.event(names[usize::from(admitted)], late);
@@ -112,6 +126,69 @@ impl Tally {
         self.event("a slot that reports finished and late jobs", both);
         self.event("a slot of nobody", u64::from(slot.runners == 0));
         self.event("a slot of 16 runners", u64::from(slot.runners == 16));
+        let names = [
+            "a slot of more than m runners, table refused",
+            "a slot of more than m runners, table admitted",
+        ];
+        let more = u64::from(slot.runners > m);
+        self.event(names[usize::from(admitted)], more);
+    }
+
+    // The k of each slot against m and the tasks open before it, which the
+    // answers tell.
+    fn cores(&mut self, script: &Script, answers: &[Answer]) {
+        let (m, mut open) = (script.cores, 0u32);
+        for (call, answer) in script.calls.iter().zip(answers) {
+            match (call, answer) {
+                (Call::Release(number), Answer::Done) => open |= 1 << (number - 1),
+                (Call::Finish(number), Answer::Done) => open &= !(1 << (number - 1)),
+                (Call::Slot(k), Answer::Ran(slot)) => {
+                    self.accepted_slot(m, *k, open.count_ones());
+                    open &= !(slot.finished | slot.late);
+                }
+                (Call::Slot(k), Answer::Refused(_)) if open != 0 => self.refused_slot(m, *k),
+                _ => {}
+            }
+        }
+    }
+
+    fn accepted_slot(&mut self, m: u32, k: u32, open: u32) {
+        let met = [
+            ("a slot of k = m and more open tasks", k == m && k < open),
+            ("a slot of k above m and more open tasks", m < k && k < open),
+            (
+                "a slot of more open tasks than m and fewer than k",
+                m < open && open < k,
+            ),
+            (
+                "a slot of k = 16 above m and one open task",
+                m < k && k == 16 && open == 1,
+            ),
+        ];
+        for (name, met) in met {
+            self.event(name, u64::from(met));
+        }
+    }
+
+    // While a job is open.
+    fn refused_slot(&mut self, m: u32, k: u32) {
+        let below = u64::from(k < m);
+        self.event("a refused slot of k below m while a job is open", below);
+        let above = u64::from(k > 16);
+        self.event("a refused slot of k above 16 while a job is open", above);
+    }
+
+    // Accepted slots, each against the accepted one before it.
+    fn changes_of_k(&mut self, script: &Script, answers: &[Answer]) {
+        let calls = script.calls.iter().zip(answers);
+        let accepted = calls.filter_map(|pair| match pair {
+            (Call::Slot(k), Answer::Ran(_)) => Some(*k),
+            _ => None,
+        });
+        let numbers: Vec<u32> = accepted.collect();
+        let changes = numbers.windows(2).filter(|pair| pair[0] != pair[1]);
+        let times = u64::try_from(changes.count()).expect("a count of 64 bits");
+        self.event("a slot of another k than the slot before", times);
     }
 
     // The released jobs of an admitted table.
@@ -120,10 +197,14 @@ impl Tally {
             "a job closed by running in time, table admitted",
             "a job closed by a finish in time, table admitted",
             "a job open at the last call, table admitted",
+            "a job closed in time past a refused slot, table admitted",
+            "a job closed in time, too late if refused slots counted, table admitted",
         ];
         self.event(names[0], kept.by_running);
         self.event(names[1], kept.by_a_finish);
         self.event(names[2], kept.undecided);
+        self.event(names[3], kept.past_refused_slots);
+        self.event(names[4], kept.too_late_if_counted);
     }
 
     // Accepted finishes, of jobs that ran since their release and of others.
@@ -131,7 +212,7 @@ impl Tally {
         let mut ran = 0;
         for (call, answer) in script.calls.iter().zip(answers) {
             match (call, answer) {
-                (Call::Slot, Answer::Ran(slot)) => ran |= slot.ran,
+                (Call::Slot(_), Answer::Ran(slot)) => ran |= slot.ran,
                 (Call::Release(number), Answer::Done) => ran &= !(1 << (number - 1)),
                 (Call::Finish(number), Answer::Done) => {
                     let did_run = ran >> (number - 1) & 1;
@@ -189,7 +270,7 @@ fn kind(call: Call, answer: Answer) -> String {
     let name = match call {
         Call::Release(_) => "RELEASE",
         Call::Finish(_) => "FINISH",
-        Call::Slot => "SLOT",
+        Call::Slot(_) => "SLOT",
         Call::Join(_) => "JOIN",
         Call::Bad(_) => "CALLS",
     };

@@ -1,16 +1,26 @@
-//! Literal sessions: cases j and k of document 01, "Cases at the edges", and the
-//! two task sets that document 000 simulates.
+//! Literal sessions: cases j and k of document 01, "Cases at the edges", slots
+//! with cores of their own (document 02, change 1), and the two task sets that
+//! document 000 simulates.
 
 use edzl_tests::program;
 use edzl_tests::script::{Answer, Call, Script, lines};
 use edzl_tests::tasks::Task;
 use edzl_tests::texts::{ORDERS, write};
 
-// Every task released once, then so many slots.
+const CASE_J: [Task; 3] = [Task::new(6, 2, 3), Task::new(6, 2, 3), Task::new(6, 5, 6)];
+const CASE_J_PRINTED: &str = "DONE\nDONE\nDONE\n\
+    3 0 0 2\n5 1 0 2\n6 2 0 2\n4 0 0 1\n4 0 0 1\n4 4 0 1\n";
+
+// Every task released once, then so many slots on m cores.
 fn released_at_once(cores: u32, table: &[Task], slots: usize) -> Script {
+    released_then(cores, table, &vec![cores; slots])
+}
+
+// Every task released once, then a slot for each k.
+fn released_then(cores: u32, table: &[Task], slots: &[u32]) -> Script {
     let numbers = (1..).zip(table);
     let mut calls: Vec<Call> = numbers.map(|(i, _)| Call::Release(i)).collect();
-    calls.extend(vec![Call::Slot; slots]);
+    calls.extend(slots.iter().map(|k| Call::Slot(*k)));
     Script {
         cores,
         table: write(table, ORDERS[0]),
@@ -18,13 +28,13 @@ fn released_at_once(cores: u32, table: &[Task], slots: usize) -> Script {
     }
 }
 
-// Every task released at the start of each of its periods.
+// Every task released at the start of each of its periods, slots on m cores.
 fn released_periodically(cores: u32, table: &[Task], slots: u32) -> Script {
     let mut calls = Vec::new();
     for slot in 0..slots {
         let due = (1..).zip(table).filter(|(_, task)| slot % task.period == 0);
         calls.extend(due.map(|(number, _)| Call::Release(number)));
-        calls.push(Call::Slot);
+        calls.push(Call::Slot(cores));
     }
     Script {
         cores,
@@ -42,10 +52,7 @@ fn check(script: &Script, expected: &str) {
 
 #[test]
 fn case_j() {
-    let table = [Task::new(6, 2, 3), Task::new(6, 2, 3), Task::new(6, 5, 6)];
-    let expected = "DONE\nDONE\nDONE\n\
-        3 0 0 2\n5 1 0 2\n6 2 0 2\n4 0 0 1\n4 0 0 1\n4 4 0 1\n";
-    check(&released_at_once(2, &table, 6), expected);
+    check(&released_at_once(2, &CASE_J, 6), CASE_J_PRINTED);
 }
 
 #[test]
@@ -59,7 +66,7 @@ fn case_k() {
 #[test]
 fn case_k_as_bytes() {
     let text = b"CORES 1\nPERIOD BUDGET DEADLINE\n5 5 5\n5 5 5\nCALLS\n\
-        RELEASE 1\nRELEASE 2\nSLOT\nFINISH 1\nSLOT\nJOIN 9 1 9\nSLOT\n";
+        RELEASE 1\nRELEASE 2\nSLOT 1\nFINISH 1\nSLOT 1\nJOIN 9 1 9\nSLOT 1\n";
     let table = [Task::new(5, 5, 5), Task::new(5, 5, 5)];
     let mut script = released_at_once(1, &table, 3);
     script.calls.insert(3, Call::Finish(1));
@@ -75,8 +82,8 @@ fn case_k_as_bytes() {
 #[test]
 fn the_gap_outlasts_the_job() {
     let text = b"CORES 1\nPERIOD BUDGET DEADLINE\n3 1 2\nCALLS\n\
-        RELEASE 1\nSLOT\nRELEASE 1\nSLOT\nRELEASE 1\nSLOT\nRELEASE 1\nFINISH 1\nRELEASE 1\n\
-        FINISH 1\nSLOT\nSLOT\nRELEASE 1\nSLOT\nRELEASE 1\n";
+        RELEASE 1\nSLOT 1\nRELEASE 1\nSLOT 1\nRELEASE 1\nSLOT 1\nRELEASE 1\nFINISH 1\n\
+        RELEASE 1\nFINISH 1\nSLOT 1\nSLOT 1\nRELEASE 1\nSLOT 1\nRELEASE 1\n";
     let expected =
         b"DONE\n1 1 0 1\nREFUSED 9\n0 0 0 0\nREFUSED 9\n0 0 0 0\nDONE\nDONE\nREFUSED 9\n\
         REFUSED 11\n0 0 0 0\n0 0 0 0\nREFUSED 9\n0 0 0 0\nDONE\n";
@@ -92,6 +99,118 @@ fn urgent_jobs_go_by_left() {
     let expected = "DONE\nDONE\n2 0 0 1\n2 0 0 1\n2 2 0 1\n1 0 0 1\n1 0 1 1\n\
         REFUSED 11\nDONE\n";
     check(&script, expected);
+}
+
+// A refused slot between any two slots of case j: the other answers stay.
+#[test]
+fn a_refused_slot_changes_no_other_answer() {
+    let expected = "DONE\nDONE\nDONE\n3 0 0 2\nREFUSED 14\n5 1 0 2\nREFUSED 14\n\
+        6 2 0 2\nREFUSED 14\n4 0 0 1\nREFUSED 14\n4 0 0 1\nREFUSED 14\n4 4 0 1\n";
+    assert_eq!(expected.replace("REFUSED 14\n", ""), CASE_J_PRINTED);
+    for k in [0, 1, 17, 4_294_967_295] {
+        let slots = [2, k, 2, k, 2, k, 2, k, 2, k, 2];
+        check(&released_then(2, &CASE_J, &slots), expected);
+    }
+}
+
+// A task without spare, C = D = 2: refused slots take nothing off left, and
+// nothing off the gap.
+#[test]
+fn refused_slots_take_no_time() {
+    let text = b"CORES 2\nPERIOD BUDGET DEADLINE\n4 2 2\nCALLS\n\
+        RELEASE 1\nSLOT 1\nSLOT 1\nSLOT 2\nSLOT 2\n\
+        SLOT 1\nSLOT 17\nRELEASE 1\nSLOT 2\nSLOT 0\nRELEASE 1\nSLOT 2\nRELEASE 1\n";
+    let expected = b"DONE\nREFUSED 14\nREFUSED 14\n1 0 0 1\n1 1 0 1\n\
+        REFUSED 14\nREFUSED 14\nREFUSED 9\n0 0 0 0\nREFUSED 14\nREFUSED 9\n0 0 0 0\nDONE\n";
+    assert_eq!(program::replay_output(text), expected);
+}
+
+// m to 16 are accepted, whatever is open.
+#[test]
+fn the_k_that_are_accepted() {
+    let odd = [31, 32, 33, 128 + 16, 256 + 16, 65_536 + 16, (1 << 31) + 16];
+    let far = [u32::MAX - 15, u32::MAX - 1, u32::MAX];
+    for m in [1, 2, 9, 15, 16] {
+        let slots: Vec<u32> = (0..=20).chain(odd).chain(far).collect();
+        let script = released_then(m, &[Task::new(99, 99, 99)], &slots);
+        let answer = |k: &u32| match (m..=16).contains(k) {
+            true => "1 0 0 1\n",
+            false => "REFUSED 14\n",
+        };
+        let answers: String = slots.iter().map(answer).collect();
+        check(&script, &format!("DONE\n{answers}"));
+    }
+}
+
+// 20 equal tasks on 1 core: each slot runs the first k.
+#[test]
+fn more_open_tasks_than_k() {
+    let slots: Vec<u32> = (1..=16).collect();
+    let script = released_then(1, &[Task::new(99, 50, 99); 20], &slots);
+    let answer = |k: &u32| format!("{} 0 0 {k}\n", (1 << k) - 1);
+    let answers: String = slots.iter().map(answer).collect();
+    check(&script, &("DONE\n".repeat(20) + &answers));
+}
+
+#[test]
+fn more_open_tasks_than_m_and_fewer_than_k() {
+    let table = [Task::new(9, 1, 9), Task::new(9, 2, 8), Task::new(9, 3, 7)];
+    let expected = "DONE\nDONE\nDONE\n7 1 0 3\n4 0 0 1\n6 6 0 2\n";
+    check(&released_then(1, &table, &[4, 1, 3]), expected);
+}
+
+// k is never compared with the number of open tasks, nor with that of all.
+#[test]
+fn all_16_cores_and_one_open_task_or_none() {
+    let text = b"CORES 1\nPERIOD BUDGET DEADLINE\n4 2 4\n4 1 4\nCALLS\n\
+        SLOT 16\nRELEASE 2\nSLOT 16\nSLOT 16\nRELEASE 1\nSLOT 16\nSLOT 1\n";
+    let expected = b"0 0 0 0\nDONE\n2 2 0 1\n0 0 0 0\nDONE\n1 0 0 1\n1 1 0 1\n";
+    assert_eq!(program::replay_output(text), expected);
+}
+
+// Later numbers have earlier deadlines and go first.
+#[test]
+fn each_slot_has_its_own_k() {
+    let table = [15, 14, 13, 12, 11].map(|deadline| Task::new(20, 3, deadline));
+    let expected = "DONE\nDONE\nDONE\nDONE\nDONE\n\
+        28 0 0 3\n24 0 0 2\n30 24 0 4\n7 4 0 3\n3 2 0 2\nREFUSED 14\n1 1 0 1\n";
+    check(&released_then(2, &table, &[3, 2, 4, 16, 2, 1, 2]), expected);
+}
+
+// Task 1 is urgent in slot 3 and goes before task 3, whose left is smaller. It
+// waits in slot 4 and is late in slot 6.
+#[test]
+fn precedence_on_more_cores_than_m() {
+    let table = [
+        Task::new(8, 4, 6),
+        Task::new(8, 1, 3),
+        Task::new(8, 1, 4),
+        Task::new(8, 5, 5),
+    ];
+    let expected = "DONE\nDONE\nDONE\nDONE\n\
+        10 2 0 2\n8 0 0 1\n9 0 0 2\n12 4 0 2\n9 8 0 2\n1 0 1 1\n";
+    check(&released_then(1, &table, &[2, 1, 2, 2, 2, 16]), expected);
+}
+
+// Case k: a second core in every slot keeps both in time, one in a single slot
+// does not.
+#[test]
+fn case_k_on_more_cores() {
+    let table = [Task::new(5, 5, 5), Task::new(5, 5, 5)];
+    let expected = "DONE\nDONE\n3 0 0 2\n3 0 0 2\n3 0 0 2\n3 0 0 2\n3 3 0 2\n";
+    check(&released_then(1, &table, &[2, 16, 2, 3, 2]), expected);
+    let expected = "DONE\nDONE\n3 0 0 2\n1 0 0 1\n1 0 0 1\n1 0 0 1\n1 1 2 1\n";
+    check(&released_then(1, &table, &[16, 1, 1, 1, 1]), expected);
+}
+
+// The machine keeps m: joins and later slots go by it, not by a slot's k.
+#[test]
+fn a_slot_leaves_m() {
+    let text = b"CORES 1\nPERIOD BUDGET DEADLINE\n5 5 5\nCALLS\n\
+        SLOT 16\nJOIN 5 5 5\nSLOT 2\nJOIN 5 5 5\nSLOT 1\nSLOT 0\nJOIN 5 5 5\nSLOT 1\n";
+    let expected = b"0 0 0 0\nREFUSED 13\n0 0 0 0\nREFUSED 13\n0 0 0 0\nREFUSED 14\n\
+        REFUSED 13\n0 0 0 0\n";
+    assert_eq!(program::replay_output(text), expected);
 }
 
 // Document 000, section 4.2: under EDZL on two processors {(5,8), (1,2), (3,6),

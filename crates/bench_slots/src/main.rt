@@ -42,8 +42,8 @@ fn may_release(job: Job) -> bool {
     job.gap == 0
 }
 
-// The checksum of the reports of so many slots of a machine of `count` tasks. Before each slot every task whose release would be accepted
-// is released: a turn of the loop looks at one task, and after the last task it plays the slot.
+// The checksum of the reports of so many slots of a machine of `count` tasks, each with the machine's cores. Before each slot every task whose
+// release would be accepted is released: a turn of the loop looks at one task, and after the last task it plays the slot.
 fn play(machine: Machine, count: usize, slots: u64) -> u64
     requires { ⌜ count ≤ maxTasks ⌝ }
 {
@@ -60,7 +60,7 @@ fn play(machine: Machine, count: usize, slots: u64) -> u64
                 after = answer.machine;
             }
         } else {
-            let answer = after.slot();
+            let answer = after.slot(after.cores);
             let report = answer.report;
             sum = with_report(sum, report);
             after = answer.machine;

@@ -28,7 +28,7 @@ use Rattle.machine.specs.declared.answer.Answer.{Answer}
 use Rattle.machine.specs.declared.answer.Report.{Report}
 use Rattle.machine.proofs.TaskNumbers.{KnownTask, known-task}
 use Rattle.machine.proofs.SlotStep.{LegalSlot}
-use Rattle.machine.proofs.RunnersLegal.{runners-legal}
+use Rattle.machine.proofs.RunnersLegal.{runners-legal, enough-cores}
 
 -- the answer of a refused call, of an accepted one, and of an accepted slot
 abbrev pub refusal : Machine → (number place : ℕ) → Answer
@@ -69,7 +69,7 @@ module _
     (on-refusal : (call : Call) (number place : ℕ) → P call (refusal m number place))
     (on-release : (number : ℕ) → ReleaseTaken m number → P (Release number) (accepted (afterRelease m number) noReport))
     (on-finish : (number : ℕ) → FinishTaken m number → P (Finish number) (accepted (afterFinish m number) noReport))
-    (on-slot : (ran : List Bool) → LegalSlot m ran → P Slot (slotAnswer m ran))
+    (on-slot : (k : ℕ) (ran : List Bool) → LegalSlot m ran → P (Slot k) (slotAnswer m ran))
     (on-join : (t : Task) → JoinTaken m t → P (Join t) (accepted (withJoined m t) noReport))
   where
     -- past a test that refuses the call by this number
@@ -97,7 +97,10 @@ module _
         past _ _ _ λ known.
         past _ _ _ λ opened.
         on-finish number (record { task = known-task m number (not-false _ ok) (not-false _ known); was-open = not-false _ opened })
-    by-call Slot = past _ _ _ λ ok. on-slot (runners m) (runners-legal m (not-false _ ok))
+    by-call (Slot k) =
+        past _ _ _ λ ok.
+        past _ _ _ λ in-range.
+        on-slot k (runners m k) (runners-legal m k (not-false _ ok) (enough-cores m k (not-false _ in-range)))
     by-call (Join t) =
         past _ _ _ λ ok.
         past _ (not (inRange t)) _ λ in-range.

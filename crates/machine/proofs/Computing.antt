@@ -14,7 +14,7 @@ use Rattle.machine.specs.Pick.{openCount, waiting, precedes, candidates,
 use Rattle.machine.specs.Slot.{passed, ranCount, noReport, slotReport, afterSlot}
 use Rattle.laws.specs.Lists.{replaced}
 use Rattle.machine.specs.Sound.{jobsSound, sound}
-use Rattle.machine.specs.Calls.{done, refuse, startAfter, start, release, finish, slot, withJoined, joinAfter, join, step}
+use Rattle.machine.specs.Calls.{done, refuse, startAfter, start, release, finish, slotCoresInRange, slot, withJoined, joinAfter, join, step}
 use Rattle.machine.specs.Play.{play}
 use Rattle.machine.specs.InTime.{isSlot, acceptedSlot}
 use Rattle.machine.specs.Mask.{mask}
@@ -29,7 +29,7 @@ unfolding
     openCount waiting precedes candidates withPicked pick runnerCount runners
     passed ranCount replaced noReport slotReport afterSlot
     jobsSound sound
-    done refuse startAfter start release finish slot withJoined joinAfter join step play
+    done refuse startAfter start release finish slotCoresInRange slot withJoined joinAfter join step play
     isSlot acceptedSlot
     task tableWith tableOf mask slotLines sameLines releases session holds line example
 computing = true

@@ -17,18 +17,18 @@ use Rattle.machine.specs.Calls.{start}
 use Rattle.machine.specs.Play.{Entry, play}
 use Rattle.machine.specs.InTime.{isFinishOf, acceptedFinish, saysRan, saysFinished, slotCount, upToSlot, ranWhole, anyFinish, tableAfter, joinedBy, closedBySlot, InTime, Promise}
 use Rattle.machine.specs.Cases.{tableOf, releases, session, example}
-use Rattle.machine.specs.Examples.{answers, refusalBefore, refusals, runnerCounts, sameNumbers, runIs, ignoredIs, many, whole, overtaken, ignored, examples, slotOf, idle, ran, ranLast, accepted, refused, closedIn, claims, allTrue}
+use Rattle.machine.specs.Examples.{answers, refusalBefore, refusals, runnerCounts, sameNumbers, runIs, ignoredIs, many, manyLines, pressed, pressedCalls, whole, overtaken, ignored, examples, slotOf, idle, ran, ranLast, accepted, refused, closedIn, claims, allTrue}
 use Rattle.machine.specs.declared.call.Call.{Call}
 use Rattle.machine.specs.declared.call.Call.the-variants.{Release, Slot}
 use Rattle.machine.proofs.Computing.{computing}
 use Rattle.machine.proofs.InTimeHolds.{promise}
 
 pub examples-hold : allTrue examples ≡ true
-unfolding computing answers refusalBefore refusals runnerCounts sameNumbers runIs ignoredIs many whole overtaken ignored examples allTrue
+unfolding computing answers refusalBefore refusals runnerCounts sameNumbers runIs ignoredIs many manyLines pressed pressedCalls whole overtaken ignored examples allTrue
 examples-hold = refl
 
 pub claims-hold : allTrue claims ≡ true
-unfolding computing saysRan saysFinished slotCount upToSlot ranWhole acceptedFinish isFinishOf anyFinish closedBySlot tableAfter joinedBy slotOf idle ran ranLast accepted refused closedIn claims allTrue
+unfolding computing answers pressed pressedCalls saysRan saysFinished slotCount upToSlot ranWhole acceptedFinish isFinishOf anyFinish closedBySlot tableAfter joinedBy slotOf idle ran ranLast accepted refused closedIn claims allTrue
 claims-hold = refl
 
 -- the log of case k, in whose last slot task 2 is late
@@ -36,7 +36,7 @@ pub late-refuted : InTime (tableOf whole) (session whole 1 5) → ⊥
 unfolding computing whole
 late-refuted claim =
     let log = session whole 1 5 in
-    not-both true refl (claim .none-late (take 6 log) [] (getD log 6 (record { call = Slot; outcome = Done; report = noReport })) refl refl 1)
+    not-both true refl (claim .none-late (take 6 log) [] (getD log 6 (record { call = Slot 1; outcome = Done; report = noReport })) refl refl 1)
 
 -- an admitted table and calls whose log has what demand 3 speaks of
 pub record NotEmpty : Type 0 where
@@ -61,7 +61,7 @@ pub record NotEmpty : Type 0 where
 
 -- on 2 cores, the three tasks of "The table above" are released and eight slots follow; the release is that of task 3
 exampleCalls : List Call
-exampleCalls = releases 3 ++ replicate 8 Slot
+exampleCalls = releases 3 ++ replicate 8 (Slot 2)
 
 pub not-empty : NotEmpty
 unfolding computing answers exampleCalls saysRan saysFinished slotCount tableAfter joinedBy

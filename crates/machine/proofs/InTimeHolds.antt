@@ -34,7 +34,7 @@ table-after m =
     (λ call number place. refl)
     (λ number taken. refl)
     (λ number taken. refl)
-    (λ ran legal. refl)
+    (λ k ran legal. refl)
     (λ t taken. refl)
 
 module _ (m : Machine) (kept : Kept m) where
@@ -89,7 +89,7 @@ module _ (m : Machine) (kept : Kept m) where
             rw (← same) (release-closed calls n taken);
       })
       (λ n taken. quiet-in-time _ _ _ refl (λ number e d. clash cc))
-      (λ ran legal. record { not-late = slot-in-time ran legal; closed = λ number e d. clash cc })
+      (λ k ran legal. record { not-late = slot-in-time ran legal; closed = λ number e d. clash cc })
       (λ t taken. quiet-in-time _ _ _ refl (λ number e d. clash cc))
 
 each-entry : (calls : List Call) (m : Machine) → Kept m → EachInTime (m .table) (play m calls)

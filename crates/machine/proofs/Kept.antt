@@ -121,5 +121,5 @@ module _ (m : Machine) (kept : Kept m) where
       (λ call number place. kept)
       kept-release
       kept-finish
-      (λ ran. kept-slot ran)
+      (λ k. kept-slot)
       kept-join

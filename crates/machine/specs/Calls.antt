@@ -1,14 +1,14 @@
--- The calls of the machine: document 01, "The slot machine" and "Why a call is not carried out".
+-- The calls of the machine: document 01, "The slot machine" and "Why a call is not carried out"; a slot by document 02, change 1.
 use Prim.Native.Nat.{ℕ, _-_}
-use mathlib.Core.Bool.{Bool, cond, not}
+use mathlib.Core.Bool.{Bool, cond, not, _&&_}
 use lib.Dec.{leb, ltb}
 use lib.ListN.{set, replicate}
 use Rattle.tasks.specs.declared.task.Task.{Task}
 use Rattle.tasks.specs.declared.table.Table.{Table}
 use Rattle.tasks.specs.declared.outcome.Outcome.{Outcome}
 use Rattle.tasks.specs.declared.outcome.Outcome.the-variants.{Done, Refused}
-use Rattle.tasks.specs.Limits.{maxTasks}
-use Rattle.tasks.specs.Refusals.{unsoundMachine, taskOutOfRange, noSuchTask, releasedTooSoon, jobStillOpen, jobNotOpen, tableFull, notAdmitted}
+use Rattle.tasks.specs.Limits.{maxTasks, maxCores}
+use Rattle.tasks.specs.Refusals.{unsoundMachine, taskOutOfRange, noSuchTask, releasedTooSoon, jobStillOpen, jobNotOpen, tableFull, notAdmitted, slotCoresOutOfRange}
 use Rattle.tasks.specs.Task.{inRange}
 use Rattle.tasks.specs.Table.{withTask}
 use Rattle.tasks.specs.Check.{checked}
@@ -58,12 +58,17 @@ finish m number =
     (cond (not (inTable m number)) (refuse m noSuchTask)
     (cond (not (jobAt m i .«open»)) (refuse m jobNotOpen) (done (withJob m i (closedJob (jobAt m i))))))
 
--- "Slot knows 0 only"
-unfoldable pub slot : Machine → Answer
-slot m =
-    let ran = runners m in
+-- change 1: "A slot with k below m or above 16", the other way round
+unfoldable pub slotCoresInRange : Machine → (k : ℕ) → Bool
+slotCoresInRange m k = leb (m .cores) k && leb k maxCores
+
+-- change 1: "A slot call now names how many cores it has, k"; "number 14, tried after 0; machine unchanged"
+unfoldable pub slot : Machine → (k : ℕ) → Answer
+slot m k =
+    let ran = runners m k in
     cond (not (sound m)) (refuse m unsoundMachine)
-    (record { machine = afterSlot m ran; outcome = Done; report = slotReport m ran })
+    (cond (not (slotCoresInRange m k)) (refuse m slotCoresOutOfRange)
+    (record { machine = afterSlot m ran; outcome = Done; report = slotReport m ran }))
 
 -- "added at the end of the table, closed, gap 0"
 unfoldable pub withJoined : Machine → Task → Machine
@@ -88,5 +93,5 @@ join m t =
 unfoldable pub step : Machine → Call → Answer
 step m (Release number) = release m number
 step m (Finish number) = finish m number
-step m Slot = slot m
+step m (Slot k) = slot m k
 step m (Join t) = join m t

@@ -62,9 +62,10 @@ unfoldable pub releases : ℕ → List Call
 releases zero = []
 releases (suc n) = releases n ++ Release (suc n) ∷ []
 
--- the log of a session: the tasks of a table "all released" on a fresh machine, then so many slots
+-- the log of a session: the tasks of a table "all released" on a fresh machine, then so many slots; document 02, change 1: "The sessions name
+-- k = m"
 unfoldable pub session : List Task → (cores slots : ℕ) → List Entry
-session tasks cores slots = play (start (tableOf tasks) cores .machine) (releases (length tasks) ++ replicate slots Slot)
+session tasks cores slots = play (start (tableOf tasks) cores .machine) (releases (length tasks) ++ replicate slots (Slot cores))
 
 -- whether a case holds
 unfoldable pub holds : Case → Bool

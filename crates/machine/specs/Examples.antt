@@ -1,16 +1,17 @@
 -- Examples beside the cases of document 01, as entries of lists of computed tests; above 150 lines because it is these lists alone, with the words
--- that they are written in. `examples` has runs of the machine: 32 tasks on 16 cores, joins, a task that turns urgent, refused calls. `claims` has
--- logs made by hand, and what the claim of demand 3 says of them. `allTrue` is the test; the theorems stand in proofs/ExamplesHold.antt.
+-- that they are written in. `examples` has runs of the machine: 32 tasks on 16 cores, joins, a task that turns urgent, refused calls, slots with
+-- other cores than the machine's. `claims` has logs made by hand, and what the claim of demand 3 says of them. `allTrue` is the test; the theorems stand in proofs/ExamplesHold.antt.
 use Prim.Native.Nat.{ℕ}
 use mathlib.Core.Bool.{Bool, true, false, cond, not, _&&_}
 use mathlib.Core.List.{List, [], _∷_, _++_}
 use lib.Dec.{eqb}
-use lib.ListN.{replicate}
+use lib.ListN.{replicate, drop}
 use Rattle.edzl.specs.Sums.{bit}
 use Rattle.tasks.specs.declared.task.Task.{Task}
 use Rattle.tasks.specs.declared.outcome.Outcome.{Outcome}
 use Rattle.tasks.specs.declared.outcome.Outcome.the-variants.{Done, Refused}
 use Rattle.tasks.specs.Refusals.{unsoundMachine}
+use Rattle.machine.specs.Machine.{zeroMachine}
 use Rattle.machine.specs.Slot.{noReport}
 use Rattle.machine.specs.Calls.{start}
 use Rattle.machine.specs.Play.{Entry, play}
@@ -60,6 +61,24 @@ ignoredIs tasks cores before call number after lines =
 unfoldable pub many : List Task
 many = replicate 20 (task 40 2 20) ++ replicate 12 (task 40 3 7)
 
+-- what its session on 16 cores reports: tasks 21 to 32 and 1 to 4 run first, then tasks 5 to 8, then 9 to 20
+unfoldable pub manyLines : List Line
+manyLines =
+    line 4_293_918_735 0 0 ∷
+    line 4_293_918_735 15 0 ∷
+    line 4_293_918_960 4_293_918_720 0 ∷
+    line 1_048_560 240 0 ∷
+    line 1_048_320 1_048_320 0 ∷
+    line 0 0 0 ∷
+    []
+
+-- a task that must run in both slots to its deadline, and calls that release it on 2 cores with two refused slots before them
+unfoldable pub pressed : List Task
+pressed = task 4 2 2 ∷ []
+
+unfoldable pub pressedCalls : List Call
+pressedCalls = Release 1 ∷ Slot 1 ∷ Slot 1 ∷ Slot 2 ∷ Slot 2 ∷ []
+
 -- a table that a third task like the two fills beyond its cores
 unfoldable pub whole : List Task
 whole = task 5 5 5 ∷ task 5 5 5 ∷ []
@@ -71,7 +90,7 @@ overtaken = task 5 2 5 ∷ task 5 2 5 ∷ task 7 6 7 ∷ []
 -- a call on `example` after the first slot, in which task 1 finished and task 2 did not
 unfoldable pub ignored : Call → (number : ℕ) → Bool
 ignored call number =
-    ignoredIs example 2 (Release 1 ∷ Release 2 ∷ Slot ∷ []) call number (Release 3 ∷ replicate 6 Slot)
+    ignoredIs example 2 (Release 1 ∷ Release 2 ∷ Slot 2 ∷ []) call number (Release 3 ∷ replicate 6 (Slot 2))
     (line 3 1 0 ∷ line 6 2 0 ∷ line 4 0 0 ∷ line 4 0 0 ∷ line 4 0 0 ∷ line 4 0 0 ∷ line 4 4 0 ∷ [])
 
 -- runs of the machine
@@ -80,34 +99,26 @@ examples =
     -- 32 tasks on 16 cores: COUNT 12, admitted; on 11 cores the same COUNT, refused
     holds (verdictIs many 16 12 true) ∷
     holds (verdictIs many 11 12 false) ∷
-    -- all 32 released: tasks 21 to 32 and 1 to 4 run first, then tasks 5 to 8, then 9 to 20
-    holds
-    (sessionIs many 16
-    (line 4_293_918_735 0 0 ∷
-    line 4_293_918_735 15 0 ∷
-    line 4_293_918_960 4_293_918_720 0 ∷
-    line 1_048_560 240 0 ∷
-    line 1_048_320 1_048_320 0 ∷
-    line 0 0 0 ∷
-    [])) ∷
+    -- all 32 released
+    holds (sessionIs many 16 manyLines) ∷
     -- 16 run while 16 or more are open, then 12, then none
-    sameNumbers (runnerCounts (answers many 16 (releases 32 ++ replicate 6 Slot)))
+    sameNumbers (runnerCounts (answers many 16 (releases 32 ++ replicate 6 (Slot 16))))
     (16 ∷ 16 ∷ 16 ∷ 16 ∷ 12 ∷ 0 ∷ []) ∷
     -- a 33rd task is refused by 12
     runIs many 16 (Join (task 40 1 40) ∷ []) (12 ∷ []) [] ∷
     -- a join that is admitted, between two slots: its task is released and runs
     runIs (task 4 1 4 ∷ task 6 2 5 ∷ []) 2
-    (Release 1 ∷ Release 2 ∷ Slot ∷ Join (task 10 6 8) ∷ Release 3 ∷ replicate 6 Slot)
+    (Release 1 ∷ Release 2 ∷ Slot 2 ∷ Join (task 10 6 8) ∷ Release 3 ∷ replicate 6 (Slot 2))
     []
     (line 3 1 0 ∷ line 6 2 0 ∷ line 4 0 0 ∷ line 4 0 0 ∷ line 4 0 0 ∷ line 4 0 0 ∷ line 4 4 0 ∷ []) ∷
     -- a join that is not admitted changes no later answer
-    ignoredIs whole 2 (Release 1 ∷ Slot ∷ []) (Join (task 5 5 5)) 13 (Release 2 ∷ replicate 5 Slot)
+    ignoredIs whole 2 (Release 1 ∷ Slot 2 ∷ []) (Join (task 5 5 5)) 13 (Release 2 ∷ replicate 5 (Slot 2))
     (line 1 0 0 ∷ line 3 0 0 ∷ line 3 0 0 ∷ line 3 0 0 ∷ line 3 1 0 ∷ line 2 2 0 ∷ []) ∷
     -- and its task has no number
     runIs whole 2 (Join (task 5 5 5) ∷ Release 3 ∷ []) (13 ∷ 8 ∷ []) [] ∷
     -- slot 3 runs task 3, urgent by then, before task 2 with the earlier deadline; tasks 1 and 2 first would make task 3 late
     holds (verdictIs overtaken 2 1 true) ∷
-    runIs overtaken 2 (Release 3 ∷ Slot ∷ Release 1 ∷ Release 2 ∷ replicate 6 Slot) []
+    runIs overtaken 2 (Release 3 ∷ Slot 2 ∷ Release 1 ∷ Release 2 ∷ replicate 6 (Slot 2)) []
     (line 4 0 0 ∷ line 3 0 0 ∷ line 5 1 0 ∷ line 6 2 0 ∷ line 4 0 0 ∷ line 4 0 0 ∷ line 4 4 0 ∷ []) ∷
     -- refused calls that change no later answer: a release too soon, a finish of a closed task
     ignored (Release 1) 9 ∷
@@ -121,14 +132,36 @@ examples =
     ignored (Join (task 5 6 5)) 5 ∷
     ignored (Join (task 10 9 10)) 13 ∷
     -- a finish before the job has run: the task stays idle, and its gap stays
-    runIs example 2 (Release 1 ∷ Release 2 ∷ Finish 2 ∷ Release 2 ∷ replicate 2 Slot) (9 ∷ []) (line 1 1 0 ∷ line 0 0 0 ∷ []) ∷
+    runIs example 2 (Release 1 ∷ Release 2 ∷ Finish 2 ∷ Release 2 ∷ replicate 2 (Slot 2)) (9 ∷ []) (line 1 1 0 ∷ line 0 0 0 ∷ []) ∷
+    -- refused slots between two accepted ones: of 0 cores, of one fewer than the machine's, of 17 and of the largest number
+    ignored (Slot 0) 14 ∷
+    ignored (Slot 1) 14 ∷
+    ignored (Slot 17) 14 ∷
+    ignored (Slot 4_294_967_295) 14 ∷
+    -- an unsound machine is told before the slot's cores
+    sameNumbers (refusals (play zeroMachine (Slot 0 ∷ Slot 17 ∷ []))) (0 ∷ 0 ∷ []) ∷
+    -- two refused slots do not bring the deadline nearer: the job has its two slots after them
+    holds (verdictIs pressed 2 1 true) ∷
+    runIs pressed 2 pressedCalls (14 ∷ 14 ∷ []) (line 1 0 0 ∷ line 1 1 0 ∷ []) ∷
+    -- more open tasks than the machine's cores and fewer than the slot's: all run
+    runIs example 2 (releases 3 ++ Slot 4 ∷ []) [] (line 7 1 0 ∷ []) ∷
+    sameNumbers (runnerCounts (answers example 2 (releases 3 ++ Slot 4 ∷ []))) (3 ∷ []) ∷
+    -- one open task on 16 cores
+    sameNumbers (runnerCounts (answers example 2 (Release 2 ∷ replicate 3 (Slot 16)))) (1 ∷ 1 ∷ 0 ∷ []) ∷
+    -- each slot has its own number: one task runs, then three, then two
+    runIs (replicate 3 (task 9 2 9)) 1 (releases 3 ++ Slot 1 ∷ Slot 3 ∷ Slot 2 ∷ []) []
+    (line 1 0 0 ∷ line 7 1 0 ∷ line 6 6 0 ∷ []) ∷
+    -- 32 tasks on 12 cores, admitted too: with 16 in every slot they run as on 16 cores, and with 12 they run later
+    holds (verdictIs many 12 12 true) ∷
+    runIs many 12 (releases 32 ++ replicate 6 (Slot 16)) [] manyLines ∷
+    sameNumbers (runnerCounts (answers many 12 (releases 32 ++ replicate 7 (Slot 12)))) (12 ∷ 12 ∷ 12 ∷ 12 ∷ 12 ∷ 8 ∷ 8 ∷ []) ∷
     []
 
 -- a slot of a log made by hand, by what it says of task 1: whether it ran, and whether it finished; of the others it says nothing
 unfoldable pub slotOf : (ran finished : Bool) → Entry
 slotOf ran finished =
     record {
-      call = Slot;
+      call = Slot 1;
       outcome = Done;
       report = record { ran = ran ∷ []; finished = finished ∷ []; late = []; runners = bit ran };
     }
@@ -163,8 +196,8 @@ claims =
     -- by the second slot, and not by the third; a refused slot is not counted
     closedIn 1 2 (idle ∷ ranLast ∷ []) ∷
     not (closedIn 1 2 (idle ∷ idle ∷ ranLast ∷ [])) ∷
-    closedIn 1 2 (idle ∷ refused Slot ∷ ranLast ∷ []) ∷
-    eqb (slotCount (idle ∷ refused Slot ∷ accepted (Finish 1) ∷ ranLast ∷ [])) 2 ∷
+    closedIn 1 2 (idle ∷ refused (Slot 1) ∷ ranLast ∷ []) ∷
+    eqb (slotCount (idle ∷ refused (Slot 1) ∷ accepted (Finish 1) ∷ ranLast ∷ [])) 2 ∷
     -- the whole budget, and the last of its slots says that the task finished
     closedIn 2 3 (ran ∷ idle ∷ ranLast ∷ []) ∷
     not (closedIn 2 3 (idle ∷ idle ∷ ranLast ∷ [])) ∷
@@ -179,6 +212,9 @@ claims =
     -- an accepted join adds its task, a refused one does not
     eqb (tableAfter (tableOf example) (accepted (Join (task 9 1 2)) ∷ []) .count) 4 ∷
     eqb (tableAfter (tableOf example) (refused (Join (task 9 1 2)) ∷ []) .count) 3 ∷
+    -- of the calls after a release, with two refused slots among them: two slots, by the second of which the job is closed
+    eqb (slotCount (drop 1 (answers pressed 2 pressedCalls))) 2 ∷
+    closedIn 2 2 (drop 1 (answers pressed 2 pressedCalls)) ∷
     []
 
 -- every test of a list holds

@@ -21,14 +21,14 @@ use Rattle.machine.specs.declared.call.Call.the-variants.{Release, Finis
 unfoldable pub isSlot : Call → Bool
 isSlot (Release number) = false
 isSlot (Finish number) = false
-isSlot Slot = true
+isSlot (Slot k) = true
 isSlot (Join task) = false
 
 -- the call is a finish of the task of this number
 unfoldable pub isFinishOf : (number : ℕ) → Call → Bool
 isFinishOf number (Release other) = false
 isFinishOf number (Finish other) = eqb other number
-isFinishOf number Slot = false
+isFinishOf number (Slot k) = false
 isFinishOf number (Join task) = false
 
 -- an accepted slot: "A call is accepted when it is not refused"
@@ -78,7 +78,7 @@ closedBySlot number task after =
 unfoldable pub joinedBy : Call → Table → Table
 joinedBy (Release number) t = t
 joinedBy (Finish number) t = t
-joinedBy Slot t = t
+joinedBy (Slot k) t = t
 joinedBy (Join task) t = withTask t task
 
 -- the table after some calls: the one started on, with the task of each accepted join

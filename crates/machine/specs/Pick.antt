@@ -1,4 +1,4 @@
--- The pick of a slot's runners: document 01, "The slot machine".
+-- The pick of a slot's runners: document 01, "The slot machine", with the slot's own number of cores, k, of document 02, change 1.
 use Prim.Native.Nat.{ℕ, zero, suc, min}
 use mathlib.Core.Bool.{Bool, true, false, not, _&&_}
 use mathlib.Core.List.{List}
@@ -31,15 +31,15 @@ unfoldable pub withPicked : List Bool → (number : ℕ) → List Bool
 withPicked picked zero = picked
 withPicked picked (suc i) = set picked i true
 
--- the first k open tasks in precedence, all of them where fewer are open: each pick is the next runner among those not yet picked
-unfoldable pub pick : Machine → (k : ℕ) → List Bool
+-- the first n open tasks in precedence, all of them where fewer are open: each pick is the next runner among those not yet picked
+unfoldable pub pick : Machine → (n : ℕ) → List Bool
 pick m zero = replicate maxTasks false
-pick m (suc k) = withPicked (pick m k) (nextRunner (candidates m (pick m k)))
+pick m (suc n) = withPicked (pick m n) (nextRunner (candidates m (pick m n)))
 
--- "min(m, number open)"
-unfoldable pub runnerCount : Machine → ℕ
-runnerCount m = min (m .cores) (openCount m)
+-- change 1: "min(k, number open)"
+unfoldable pub runnerCount : Machine → (k : ℕ) → ℕ
+runnerCount m k = min k (openCount m)
 
--- "Pick the first min(m, number open) open tasks in precedence."
-unfoldable pub runners : Machine → List Bool
-runners m = pick m (runnerCount m)
+-- change 1: a slot "picks min(k, number open)", the first open tasks in precedence
+unfoldable pub runners : Machine → (k : ℕ) → List Bool
+runners m k = pick m (runnerCount m k)

@@ -5,11 +5,11 @@ use tasks::task::Task;
 ghost use mathlib.Core.Path.{_≡_};
 ghost use Rattle.machine.specs.Calls.{step};
 
-// Release and Finish name a task by its number, from 1.
+// Release and Finish name a task by its number, from 1, and Slot the number of cores that it has.
 pub enum Call {
     Release(u32),
     Finish(u32),
-    Slot,
+    Slot(u32),
     Join(Task),
 }
 
@@ -21,7 +21,7 @@ impl Machine {
         match call {
             Call::Release(number) => self.release(number),
             Call::Finish(number) => self.finish(number),
-            Call::Slot => self.slot(),
+            Call::Slot(available) => self.slot(available),
             Call::Join(task) => self.join(task),
         }
     }

@@ -38,13 +38,13 @@ impl Machine {
         Ranks { ranks, found }
     }
 
-    // How many tasks run in a slot, of so many that are open.
-    pub(crate) fn runner_count(self, found: u32) -> u32
+    // How many tasks run in a slot with so many cores, of so many that are open.
+    pub(crate) fn runner_count(self, available: u32, found: u32) -> u32
         requires { ⌜ found ≡ openCount self ⌝ }
-        ensures { λ r. ⌜ r ≡ runnerCount self ⌝ }
+        ensures { λ r. ⌜ r ≡ runnerCount self available ⌝ }
     {
-        if self.cores < found {
-            return self.cores;
+        if available < found {
+            return available;
         }
         found
     }

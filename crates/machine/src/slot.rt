@@ -2,15 +2,17 @@
 use crate::answer::Answer;
 use crate::answer::Report;
 use crate::machine::Machine;
+use tasks::limits::MAX_CORES;
 use tasks::limits::MAX_TASKS;
 use tasks::outcome::Outcome;
+use tasks::refusals::SLOT_CORES_OUT_OF_RANGE;
 use tasks::refusals::UNSOUND_MACHINE;
 ghost use Prim.Native.Nat.{_≤_};
 ghost use mathlib.Core.Path.{_≡_};
 ghost use Rattle.tasks.specs.declared.outcome.Outcome.the-variants.{Done};
 ghost use Rattle.tasks.specs.Limits.{maxTasks};
 ghost use Rattle.machine.specs.Slot.{ranCount, afterSlot, slotReport};
-ghost use Rattle.machine.specs.Calls.{slot};
+ghost use Rattle.machine.specs.Calls.{slotCoresInRange, slot};
 
 impl Machine {
     // Steps 2 to 4 of a slot in which these tasks ran, so many in number.
@@ -42,16 +44,29 @@ impl Machine {
         }
     }
 
-    // One slot: the pick of the runners, and what it does to every job.
-    pub fn slot(self) -> Answer
-        ensures { λ r. ⌜ r ≡ slot self ⌝ }
+    // Whether a slot may have so many cores: as many as the machine's, or more.
+    fn slot_cores_in_range(self, available: u32) -> bool
+        ensures { λ r. ⌜ r ≡ slotCoresInRange self available ⌝ }
+    {
+        if available < self.cores {
+            return false;
+        }
+        available <= MAX_CORES
+    }
+
+    // One slot with so many cores: the pick of the runners, and what it does to every job.
+    pub fn slot(self, available: u32) -> Answer
+        ensures { λ r. ⌜ r ≡ slot self available ⌝ }
     {
         if !self.is_sound() {
             return Answer::refused(self, UNSOUND_MACHINE);
         }
+        if !self.slot_cores_in_range(available) {
+            return Answer::refused(self, SLOT_CORES_OUT_OF_RANGE);
+        }
         let tasks = self.ranks();
         let ranks = tasks.ranks;
-        let runners = self.runner_count(tasks.found);
+        let runners = self.runner_count(available, tasks.found);
         let ran = self.pick(ranks, runners);
         self.passed(ran, runners)
     }

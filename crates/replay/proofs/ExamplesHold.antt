@@ -9,7 +9,7 @@ use Rattle.reader.specs.Value.{isValue}
 use Rattle.reader.specs.Names.{columnIn, columnsIn, eachNamed, columnsOf, threeNames, beginsWithNames}
 use Rattle.reader.specs.Reading.{refused, threeValues, beginsWithValues, taskOf, ended, valueLines, reading}
 use Rattle.machine.proofs.Computing.{computing}
-use Rattle.replay.specs.Calls.{joinOf, callOfTask, callOf, callsFrom, callsStart}
+use Rattle.replay.specs.Calls.{joinOf, callWith, callOf, callsFrom, callsStart}
 use Rattle.replay.specs.Output.{badLine, reportLine, acceptedLine, outcomeLine, answerLine}
 use Rattle.replay.specs.Script.{onCall, answers, printedAfterStart, printedAfterReading, printedFor, printedAfterCores, printedAfterFirst, printed}
 use Rattle.replay.specs.Examples.{exampleScript, exampleOutput}
@@ -21,7 +21,7 @@ unfolding
     areThree furtherNumbers numbersLine refusedLine
     isValue columnIn columnsIn eachNamed columnsOf threeNames beginsWithNames
     refused threeValues beginsWithValues taskOf ended isEmpty valueLines reading computing
-    joinOf callOfTask callOf callsFrom callsStart
+    joinOf callWith callOf callsFrom callsStart
     badLine reportLine acceptedLine outcomeLine answerLine onCall answers
     printedAfterStart printedAfterReading printedFor printedAfterCores printedAfterFirst printed
     exampleScript exampleOutput

@@ -43,7 +43,7 @@ pub done-line : (call : Call) (r : Report) → OneOf (0 ∷ 1 ∷ 3 ∷ []) (tag
 unfolding acceptedLine
 done-line (Release i) r h = refl
 done-line (Finish i) r h = refl
-done-line Slot r h = absurd (⊎-elim (λ e. omega (arith, e)) (λ h. ⊎-elim (λ e. omega (arith, e)) (λ e. omega (arith, e)) h) h)
+done-line (Slot k) r h = absurd (⊎-elim (λ e. omega (arith, e)) (λ h. ⊎-elim (λ e. omega (arith, e)) (λ e. omega (arith, e)) h) h)
 done-line (Join t) r h = refl
 
 pub done-put : (a b : List ℕ) (u r : ℕ) → Put a u (doneWord ++ lineEnd ∷ []) b r → Line answerRoom a u (doneWord ++ lineEnd ∷ []) b r

@@ -73,8 +73,8 @@ module _ (a whole b : List ℕ) (v : ℕ) (m : Machine) (n : ℕ) (s : List ℕ)
     play-more c w g =
         let rest = answered (step m call .machine) (n + 1) (past s k) in
         let lengths = ap length next ∙ length-append (answerLine call (step m call)) rest in
-        let four = call-long (take k s) call r in
+        let five = call-long (take k s) call r in
         record {
           left = partly-more a 0 whole b v _ _ (rw next at (p .left)) c w (g .put);
-          few = omega (arith, p .few, g .few, lengths, four, length-take-le k s (omega arith), from-length s (k + 1));
+          few = omega (arith, p .few, g .few, lengths, five, length-take-le k s (omega arith), from-length s (k + 1));
         }

@@ -1,4 +1,4 @@
--- The calls of a script (docs/HANDBOOK.md, "Replaying calls"): "one call a line: `RELEASE i`, `FINISH i`, `SLOT`, `JOIN T C D`", and the line
+-- The calls of a script (docs/HANDBOOK.md, "Replaying calls"): "one call a line: `RELEASE i`, `FINISH i`, `SLOT k`, `JOIN T C D`", and the line
 -- `CALLS` before them.
 use Prim.Native.Nat.{ℕ, _+_}
 use mathlib.Core.List.{List, [], _∷_}
@@ -26,17 +26,17 @@ joinOf f =
     (Read (Join (record { period = decimal (field 0 f); budget = decimal (field 1 f); deadline = decimal (field 2 f) })))
     Bad
 
--- the call of task i, if there is a number i; else what the line is otherwise
-unfoldable pub callOfTask : Number → (ℕ → Call) → CallLine → CallLine
-callOfTask (Number.Read i) call other = Read (call i)
-callOfTask Number.Broken call other = other
+-- the call that names one number, if it was read; else what the line is otherwise
+unfoldable pub callWith : Number → (ℕ → Call) → CallLine → CallLine
+callWith (Number.Read n) call other = Read (call n)
+callWith Number.Broken call other = other
 
 -- the call of a line
 unfoldable pub callOf : List ℕ → CallLine
 callOf l =
-    cond (sameBytes l slotWord) (Read Slot)
-    (callOfTask (numberAfter maxDigits maxNumber releaseWord l) Release
-    (callOfTask (numberAfter maxDigits maxNumber finishWord l) Finish
+    callWith (numberAfter maxDigits maxNumber slotWord l) Slot
+    (callWith (numberAfter maxDigits maxNumber releaseWord l) Release
+    (callWith (numberAfter maxDigits maxNumber finishWord l) Finish
     (cond (beginsWith joinWord l) (joinOf (drop (length joinWord) l)) Bad)))
 
 -- where the first line `CALLS` stands among lines of which the first has the number n and begins at a place: the table ends there, the calls

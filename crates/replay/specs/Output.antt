@@ -25,7 +25,7 @@ reportLine r = numbersLine (mask (r .ran) ∷ mask (r .finished) ∷ mask (r .la
 unfoldable pub acceptedLine : Call → Report → List ℕ
 acceptedLine (Release i) r = doneWord ++ lineEnd ∷ []
 acceptedLine (Finish i) r = doneWord ++ lineEnd ∷ []
-acceptedLine Slot r = reportLine r
+acceptedLine (Slot k) r = reportLine r
 acceptedLine (Join t) r = doneWord ++ lineEnd ∷ []
 
 -- the line of a call that had an outcome and a report: "`REFUSED n` for a refused call"
@@ -45,9 +45,9 @@ refusalRoom = 32
 abbrev pub answerRoom : ℕ
 answerRoom = 44
 
--- bytes of the output that are enough for each byte of the calls: the line of a call has at least 5 bytes, and its answer's at most 44
+-- bytes of the output that are enough for each byte of the calls: the line of a call has at least 6 bytes, and its answer's at most 44
 abbrev pub callRoom : ℕ
-callRoom = 9
+callRoom = 8
 
 -- a text of at most so many bytes was put after the first `used` bytes of an array
 pub record Line (most : ℕ) (before : List ℕ) (used : ℕ) (text after : List ℕ) (r : ℕ) : Type 0 where

@@ -73,6 +73,6 @@ printed s =
     cond (ltb maxScriptLength (length s)) (refusedLine textTooLong)
     (cond (has lineEnd s) (printedAfterFirst (numberAfter maxDigits maxNumber coresWord (before lineEnd s)) (after lineEnd s)) (badLine 1))
 
--- the room that an array needs for it: 9 bytes for each byte of a script, and 32 more
+-- the room that an array needs for it: 8 bytes for each byte of a script, and 32 more
 abbrev pub room : ℕ
-room = 589856
+room = 524320

@@ -18,9 +18,9 @@ finishWord = 70 ∷ 73 ∷ 78 ∷ 73 ∷ 83 ∷ 72 ∷ 32 ∷ []
 abbrev pub joinWord : List ℕ
 joinWord = 74 ∷ 79 ∷ 73 ∷ 78 ∷ 32 ∷ []
 
--- "SLOT", a line of its own
+-- "SLOT" with its space, before k
 abbrev pub slotWord : List ℕ
-slotWord = 83 ∷ 76 ∷ 79 ∷ 84 ∷ []
+slotWord = 83 ∷ 76 ∷ 79 ∷ 84 ∷ 32 ∷ []
 
 -- "CALLS", a line of its own
 abbrev pub callsWord : List ℕ

@@ -61,8 +61,8 @@ pub fn find_calls(text: &[u8]) -> CallsStart
 pub fn call_line(line: &[u8]) -> CallLine
     ensures { λ r. ⌜ r ≡ callOf (now (line .entry)) ⌝ }
 {
-    if bytes::same(line, b"SLOT") {
-        return CallLine::Read(Call::Slot);
+    if let Number::Read(available) = number::number_after(line, b"SLOT ", MAX_DIGITS, MAX_NUMBER) {
+        return CallLine::Read(Call::Slot(available));
     }
     if let Number::Read(number) = number::number_after(line, b"RELEASE ", MAX_DIGITS, MAX_NUMBER) {
         return CallLine::Read(Call::Release(number));

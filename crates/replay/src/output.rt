@@ -37,7 +37,7 @@ pub fn put_answer(output: &mut [u8], used: usize, call: Call, answer: Answer) ->
     if let Outcome::Refused { number, place: _ } = outcome {
         return put_refused(output, used, number);
     }
-    let Call::Slot = call else {
+    let Call::Slot(_) = call else {
         return put(output, used, b"DONE\n");
     };
     let report = answer.report;

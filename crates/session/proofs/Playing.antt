@@ -34,34 +34,35 @@ released-more m₀ m n h calls = rw (append-assoc (releases n) (Release (suc n) 
 -- the session of some tasks, from the machine after their releases
 pub session-lines :
     (tasks : List Task) (cores slots : ℕ) (m : Machine) (a : Answer) (t : Table) → Released (a .machine) (length tasks) m → a ≡ start t cores
-    → t ≡ tableOf tasks → slotLinesFrom 1 (session tasks cores slots) ≡ slotLinesFrom 1 (play m (replicate slots Slot))
+    → t ≡ tableOf tasks → slotLinesFrom 1 (session tasks cores slots) ≡ slotLinesFrom 1 (play m (replicate slots (Slot cores)))
 unfolding session
 session-lines tasks cores slots m a t h e f =
     let q : start (tableOf tasks) cores .machine ≡ a .machine = rw (e, f) in
-    rw q (h (replicate slots Slot))
+    rw q (h (replicate slots (Slot cores)))
 
--- the lines of some slots of a machine, the first of which has the number n
-abbrev slotsFrom : ℕ → Machine → ℕ → List ℕ
-slotsFrom n m slots = slotLinesFrom n (play m (replicate slots Slot))
+-- the lines of some slots of a machine, with k cores each, the first of which has the number n
+abbrev slotsFrom : ℕ → Machine → (k slots : ℕ) → List ℕ
+slotsFrom n m k slots = slotLinesFrom n (play m (replicate slots (Slot k)))
 
 -- after n slots of m₀: the lines of the slots that are left are still to come
-pub record Playing (before : List ℕ) (used : ℕ) (m₀ : Machine) (slots : ℕ) (after : List ℕ) (at : ℕ) (m : Machine) (n : ℕ) : Type 0 where
-  pub lines : Partly before used (slotsFrom 1 m₀ slots) after at (slotsFrom (n + 1) m (slots - n))
+pub record Playing (before : List ℕ) (used : ℕ) (m₀ : Machine) (k slots : ℕ) (after : List ℕ) (at : ℕ) (m : Machine) (n : ℕ) : Type 0 where
+  pub lines : Partly before used (slotsFrom 1 m₀ k slots) after at (slotsFrom (n + 1) m k (slots - n))
   pub within : n ≤ slots
 
-pub play-none : (a : List ℕ) (u : ℕ) (m : Machine) (slots : ℕ) → Playing a u m slots a u m 0
-play-none a u m slots =
+pub play-none : (a : List ℕ) (u : ℕ) (m : Machine) (k slots : ℕ) → Playing a u m k slots a u m 0
+play-none a u m k slots =
     let e : slots - 0 ≡ slots = omega arith in
-    record { lines = rw e (partly-none a u (slotsFrom 1 m slots)); within = omega arith }
+    record { lines = rw e (partly-none a u (slotsFrom 1 m k slots)); within = omega arith }
 
-module _ (a : List ℕ) (u : ℕ) (m₀ : Machine) (slots : ℕ) (b : List ℕ) (v : ℕ) (m : Machine) (n : ℕ) (p : Playing a u m₀ slots b v m n) where
+module _ (a : List ℕ) (u : ℕ) (m₀ : Machine) (k slots : ℕ) (b : List ℕ) (v : ℕ) (m : Machine) (n : ℕ) (p : Playing a u m₀ k slots b v m n) where
   pub play-more :
-      n < slots → (c : List ℕ) (w : ℕ) → Put b v (slotLine (n + 1) (slot m .report)) c w → Playing a u m₀ slots c w (slot m .machine) (n + 1)
+      n < slots → (c : List ℕ) (w : ℕ) → Put b v (slotLine (n + 1) (slot m k .report)) c w
+      → Playing a u m₀ k slots c w (slot m k .machine) (n + 1)
   unfolding play step isSlot slotLinesFrom
   play-more l c w g =
       let e : slots - n ≡ suc (slots - (n + 1)) = omega arith in
       record { lines = partly-more a u _ b v _ _ (rw e at (p .lines)) c w g; within = omega arith }
 
-  pub play-all : slots ≤ n → Put a u (slotsFrom 1 m₀ slots) b v
+  pub play-all : slots ≤ n → Put a u (slotsFrom 1 m₀ k slots) b v
   unfolding play slotLinesFrom
   play-all l = let e : slots - n ≡ 0 = omega arith in partly-all a u _ b v (rw e at (p .lines))

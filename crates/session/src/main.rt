@@ -16,6 +16,11 @@ ghost use Rattle.machine.specs.declared.call.Call.{Call};
 ghost use Rattle.machine.specs.declared.call.Call.the-variants.{Slot};
 ghost use Rattle.session.specs.Printed.{slotLine, slotLinesFrom, caseJ, caseK, printed, room};
 
+// The cores of the machine of each case, and of its slots.
+const CASE_J_CORES: u32 = 2;
+
+const CASE_K_CORES: u32 = 1;
+
 // Eleven lines of eight bytes.
 const OUTPUT_ROOM: usize = 88;
 
@@ -30,15 +35,15 @@ fn put_slot(output: &mut [u8], used: usize, number: u64, report: Report) -> usiz
     put_numbers(output, used, &numbers)
 }
 
-// Puts a line for each of the next slots of a machine.
-fn play(output: &mut [u8], used: usize, mut machine: Machine, slots: u64) -> usize
-    ensures { λ r. ⌜ Put (now (output .entry)) used (slotLinesFrom 1 (log machine (replicate slots Slot))) (now (output .exit)) r ⌝ }
+// Puts a line for each of the next slots of a machine, all of which have so many cores.
+fn play(output: &mut [u8], used: usize, mut machine: Machine, cores: u32, slots: u64) -> usize
+    ensures { λ r. ⌜ Put (now (output .entry)) used (slotLinesFrom 1 (log machine (replicate slots (Slot cores)))) (now (output .exit)) r ⌝ }
 {
     let mut at = used;
     let mut number: u64 = 0;
     while number < slots {
         number += 1;
-        let answer = machine.slot();
+        let answer = machine.slot(cores);
         let report = answer.report;
         at = put_slot(output, at, number, report);
         machine = answer.machine;
@@ -72,27 +77,27 @@ fn released(mut machine: Machine, count: u32) -> Machine
 
 // Tasks 6, 2, 3; 6, 2, 3; 6, 5, 6 on 2 cores.
 fn case_j() -> Machine
-    ensures { λ r. ⌜ slotLinesFrom 1 caseJ ≡ slotLinesFrom 1 (log r (replicate 6 Slot)) ⌝ }
+    ensures { λ r. ⌜ slotLinesFrom 1 caseJ ≡ slotLinesFrom 1 (log r (replicate 6 (Slot 2))) ⌝ }
 {
     let mut table = Table::empty();
     table.tasks[0] = task(6, 2, 3);
     table.tasks[1] = task(6, 2, 3);
     table.tasks[2] = task(6, 5, 6);
     table.count = 3;
-    let answer = Machine::start(table, 2);
+    let answer = Machine::start(table, CASE_J_CORES);
     let machine = answer.machine;
     released(machine, 3)
 }
 
 // Two tasks 5, 5, 5 on 1 core.
 fn case_k() -> Machine
-    ensures { λ r. ⌜ slotLinesFrom 1 caseK ≡ slotLinesFrom 1 (log r (replicate 5 Slot)) ⌝ }
+    ensures { λ r. ⌜ slotLinesFrom 1 caseK ≡ slotLinesFrom 1 (log r (replicate 5 (Slot 1))) ⌝ }
 {
     let mut table = Table::empty();
     table.tasks[0] = task(5, 5, 5);
     table.tasks[1] = task(5, 5, 5);
     table.count = 2;
-    let answer = Machine::start(table, 1);
+    let answer = Machine::start(table, CASE_K_CORES);
     let machine = answer.machine;
     released(machine, 2)
 }
@@ -102,8 +107,8 @@ fn sessions(output: &mut [u8]) -> usize
     requires { ⌜ room ≤ length (now output) ⌝ }
     ensures { λ r. ⌜ Holds printed (now (output .exit)) r ⌝ }
 {
-    let used = play(output, 0, case_j(), 6);
-    play(output, used, case_k(), 5)
+    let used = play(output, 0, case_j(), CASE_J_CORES, 6);
+    play(output, used, case_k(), CASE_K_CORES, 5)
 }
 
 fn main() {

@@ -1,4 +1,4 @@
--- The numbers of document 01, "Why a call is not carried out".
+-- The numbers of document 01, "Why a call is not carried out", and of document 02's changes.
 use Prim.Native.Nat.{ℕ}
 
 -- "0. The machine handed in is unsound"
@@ -56,3 +56,7 @@ tableFull = 12
 -- "13. The table with the joining task is not admitted."
 abbrev pub notAdmitted : ℕ
 notAdmitted = 13
+
+-- change 1: "A slot with k below m or above 16: number 14"
+abbrev pub slotCoresOutOfRange : ℕ
+slotCoresOutOfRange = 14

@@ -1,4 +1,4 @@
-// The numbers of document 01, "Why a call is not carried out".
+// The numbers of document 01, "Why a call is not carried out", and of document 02's changes.
 
 pub const UNSOUND_MACHINE: u32 = 0;
 
@@ -27,3 +27,5 @@ pub const JOB_NOT_OPEN: u32 = 11;
 pub const TABLE_FULL: u32 = 12;
 
 pub const NOT_ADMITTED: u32 = 13;
+
+pub const SLOT_CORES_OUT_OF_RANGE: u32 = 14;

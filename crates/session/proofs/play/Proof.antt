@@ -8,13 +8,14 @@ use Rattle.session.proofs.play.Statement.{statement}
 use Rattle.session.proofs.play.Tie as tie
 
 abbrev Inv-loop : tie.InvT-loop
-Inv-loop output₀ used machine₀ slots at₀ number₀ output machine at number = Playing output₀ used machine₀ slots output at machine number
+Inv-loop output₀ used machine₀ cores slots at₀ number₀ output machine at number =
+    Playing output₀ used machine₀ cores slots output at machine number
 
 abbrev μ-loop : tie.MeasureT-loop
-μ-loop output₀ used machine₀ slots at₀ number₀ output machine at number = slots - number
+μ-loop output₀ used machine₀ cores slots at₀ number₀ output machine at number = slots - number
 
 loop-holds : tie.Need-loop-holds Inv-loop μ-loop
-loop-holds c = play-none _ _ _ _
+loop-holds c = play-none _ _ _ _ _
 
 loop-again : tie.Need-loop-again Inv-loop μ-loop
 loop-again c =
@@ -22,13 +23,13 @@ loop-again c =
     let s = p .before .before .before in
     let t = s .before in
     rw (s .slot .ensures)
-    (play-more _ _ _ _ _ _ _ _ (t .before .loop .inv) (t .loop-test .taken) _ _ (rw (s .slot .ensures) at (p .put-slot .ensures)))
+    (play-more _ _ _ _ _ _ _ _ _ (t .before .loop .inv) (t .loop-test .taken) _ _ (rw (s .slot .ensures) at (p .put-slot .ensures)))
 
 same-length : tie.Need-same-length Inv-loop μ-loop
 same-length c = put-size _ _ _ _ _ (c .before .loop .inv .lines .put)
 
 returns : tie.Need-returns Inv-loop μ-loop
-returns c = play-all _ _ _ _ _ _ _ _ (c .before .loop .inv) (c .loop-test .left)
+returns c = play-all _ _ _ _ _ _ _ _ _ (c .before .loop .inv) (c .loop-test .left)
 
 pub play-spec : {M : Type 1} → statement M
 play-spec =

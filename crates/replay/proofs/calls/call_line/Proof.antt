@@ -6,75 +6,97 @@ use mathlib.Core.List.{List}
 use lib.ListN.{length, drop}
 use Rattle.laws.proofs.Booleans.{was-true, was-false}
 use Rattle.laws.proofs.Parts.{from, from-drop}
-use Rattle.text.specs.Words.{sameBytes, beginsWith}
+use Rattle.text.specs.Words.{beginsWith}
 use Rattle.text.specs.Number.{numberAfter}
 use Rattle.text.specs.declared.number.Number.the-variants.{Broken}
 use Rattle.text.proofs.WordLaws.{not-longer}
 use Rattle.replay.specs.declared.calls.CallLine.the-variants.{Bad}
 use Rattle.replay.specs.Words.{releaseWord, finishWord, joinWord, slotWord}
 use Rattle.replay.specs.Numbers.{maxDigits, maxNumber}
-use Rattle.replay.specs.Calls.{joinOf, callOfTask, callOf}
+use Rattle.replay.specs.Calls.{joinOf, callWith, callOf}
 use Rattle.replay.proofs.JoinLaws.{join-broken, join-longer, join-read}
 use borrow.Author.Needs.{needs}
 use Rattle.replay.proofs.calls.call_line.Statement.{statement}
 use Rattle.replay.proofs.calls.call_line.Tie as tie
 
--- the line, and the places where a slot and a release were tried
-abbrev line : tie.Else1 → List ℕ
-line c = c .before .before .before .before .args .line .now
+-- the line, and the places where a slot, a release and a finish were tried
+abbrev line : tie.After-number-after → List ℕ
+line c = c .before .before .before .args .line .now
 
-abbrev slot-tried : tie.After-enum-told → tie.Else1
-slot-tried c = c .before .before .before .before
+abbrev slot-tried : tie.After-enum-told → tie.After-number-after
+slot-tried c = c .before .before
 
-abbrev release-tried : tie.After-enum-told2 → tie.After-enum-told
-release-tried c = c .before .before .before .before
+abbrev release-tried : tie.After-enum-told2 → tie.After-number-after2
+release-tried c = c .before .before
 
-no-slot : (c : tie.Else1) → sameBytes (line c) slotWord ≡ false
-no-slot c = sym (c .before .same .ensures) ∙ c .if1 .left
+abbrev finish-tried : tie.After-enum-told3 → tie.After-number-after3
+finish-tried c = c .before .before
 
-no-release : (c : tie.After-enum-told) → numberAfter maxDigits maxNumber releaseWord (line (slot-tried c)) ≡ Broken
-no-release c = sym (c .before .before .number-after .ensures) ∙ c .enum-told .given .1
+-- the place where it was no slot, and where it was no release either
+abbrev past-slot : tie.After-number-after2 → tie.After-enum-told
+past-slot c = c .before .before
 
-no-finish : (c : tie.After-enum-told2) → numberAfter maxDigits maxNumber finishWord (line (slot-tried (release-tried c))) ≡ Broken
-no-finish c = sym (c .before .before .number-after2 .ensures) ∙ c .enum-told2 .given .1
+abbrev past-release : tie.After-number-after3 → tie.After-enum-told2
+past-release c = c .before .before
+
+no-slot : (c : tie.After-enum-told) → numberAfter maxDigits maxNumber slotWord (line (slot-tried c)) ≡ Broken
+no-slot c = sym (slot-tried c .number-after .ensures) ∙ c .enum-told .given .1
+
+abbrev line2 : tie.After-number-after2 → List ℕ
+line2 c = line (slot-tried (past-slot c))
+
+no-release : (c : tie.After-enum-told2) → numberAfter maxDigits maxNumber releaseWord (line2 (release-tried c)) ≡ Broken
+no-release c = sym (release-tried c .number-after2 .ensures) ∙ c .enum-told2 .given .1
+
+abbrev line3 : tie.After-number-after3 → List ℕ
+line3 c = line2 (release-tried (past-release c))
+
+no-finish : (c : tie.After-enum-told3) → numberAfter maxDigits maxNumber finishWord (line3 (finish-tried c)) ≡ Broken
+no-finish c = sym (finish-tried c .number-after3 .ensures) ∙ c .enum-told3 .given .1
 
 -- it is none of the three: a join, or no call
 joins :
-    (c : tie.After-enum-told2)
-    → let l = line (slot-tried (release-tried c)) in callOf l ≡ cond (beginsWith joinWord l) (joinOf (drop (length joinWord) l)) Bad
-unfolding callOf callOfTask
-joins c = rw (no-slot (slot-tried (release-tried c)), no-release (release-tried c), no-finish c)
+    (c : tie.After-enum-told3)
+    → let l = line3 (finish-tried c) in callOf l ≡ cond (beginsWith joinWord l) (joinOf (drop (length joinWord) l)) Bad
+unfolding callOf callWith
+joins c =
+    let f = past-release (finish-tried c) in
+    rw (no-slot (past-slot (release-tried f)), no-release f, no-finish c)
 
 -- it begins with the word of a join, whose fields follow
-abbrev join-line : tie.Else2 → List ℕ
-join-line c = line (slot-tried (release-tried (c .before .before .before)))
+abbrev join-line : tie.Else1 → List ℕ
+join-line c = line3 (finish-tried (c .before .before .before))
 
-begins : (c : tie.Else2) → beginsWith joinWord (join-line c) ≡ true
-begins c = was-true (c .before .begins-with .ensures) (c .if2 .left)
+begins : (c : tie.Else1) → beginsWith joinWord (join-line c) ≡ true
+begins c = was-true (c .before .begins-with .ensures) (c .if1 .left)
 
-join-fits : (c : tie.Else2) → 5 ≤ length (join-line c)
+join-fits : (c : tie.Else1) → 5 ≤ length (join-line c)
 join-fits c = not-longer joinWord _ (begins c)
 
-join-is : (c : tie.Else2) → callOf (join-line c) ≡ joinOf (from (join-line c) 5)
+join-is : (c : tie.Else1) → callOf (join-line c) ≡ joinOf (from (join-line c) 5)
 join-is c = joins (c .before .before .before) ∙ rw (begins c) (ap joinOf (sym (from-drop (join-line c) 5)))
 
 returns : tie.Need-returns
-unfolding callOf
-returns c = rw (sym (c .before .same .ensures) ∙ c .if1 .taken)
+unfolding callOf callWith
+returns c = let n = c .before in rw (sym (n .before .before .number-after .ensures) ∙ n .available .given .1)
 
 returns-2 : tie.Need-returns-2
-unfolding callOf callOfTask
-returns-2 c = let n = c .before in rw (no-slot (n .before .before .before .before), sym (n .before .before .number-after .ensures) ∙ n .number .given .1)
+unfolding callOf callWith
+returns-2 c =
+    let n = c .before in
+    let t = n .before .before in
+    rw (no-slot (past-slot t), sym (t .number-after2 .ensures) ∙ n .number .given .1)
 
 returns-3 : tie.Need-returns-3
-unfolding callOf callOfTask
+unfolding callOf callWith
 returns-3 c =
     let n = c .before in
-    let e = n .before .before .before .before in
-    rw (no-slot (slot-tried e), no-release e, sym (n .before .before .number-after2 .ensures) ∙ n .number2 .given .1)
+    let t = n .before .before in
+    let f = past-release t in
+    rw (no-slot (past-slot (release-tried f)), no-release f, sym (t .number-after3 .ensures) ∙ n .number2 .given .1)
 
 returns-4 : tie.Need-returns-4
-returns-4 c = sym (joins (c .before .before .before) ∙ rw (was-false (c .before .begins-with .ensures) (c .if2 .taken)))
+returns-4 c = sym (joins (c .before .before .before) ∙ rw (was-false (c .before .begins-with .ensures) (c .if1 .taken)))
 
 sub-fields : tie.Need-sub-fields
 sub-fields c = join-fits c
@@ -83,13 +105,13 @@ part-fields-start : tie.Need-part-fields-start
 part-fields-start c = join-fits c
 
 returns-5 : tie.Need-returns-5
-returns-5 c = let n = c .before .before in join-broken _ (sym (n .three-numbers .ensures) ∙ c .enum-told3 .given .1) ∙ sym (join-is (n .before .before))
+returns-5 c = let n = c .before .before in join-broken _ (sym (n .three-numbers .ensures) ∙ c .enum-told4 .given .1) ∙ sym (join-is (n .before .before))
 
 returns-6 : tie.Need-returns-6
-returns-6 c = let f = c .before .before in let n = f .before .before in join-longer _ _ _ _ _ (sym (n .three-numbers .ensures) ∙ f .period .given .1) (c .if3 .taken) ∙ sym (join-is (n .before .before))
+returns-6 c = let f = c .before .before in let n = f .before .before in join-longer _ _ _ _ _ (sym (n .three-numbers .ensures) ∙ f .period .given .1) (c .if2 .taken) ∙ sym (join-is (n .before .before))
 
 returns-7 : tie.Need-returns-7
-returns-7 c = let f = c .before .before in let n = f .before .before in join-read _ _ _ _ _ (sym (n .three-numbers .ensures) ∙ f .period .given .1) (c .if3 .left) ∙ sym (join-is (n .before .before))
+returns-7 c = let f = c .before .before in let n = f .before .before in join-read _ _ _ _ _ (sym (n .three-numbers .ensures) ∙ f .period .given .1) (c .if2 .left) ∙ sym (join-is (n .before .before))
 
 pub call-line-spec : {M : Type 1} → statement M
 call-line-spec =
@@ -97,7 +119,9 @@ call-line-spec =
     (tie.spec
     (λ c. search needs)
     (λ c κs. search needs)
+    (λ c. search needs)
     returns
+    (λ c. search needs)
     (λ c. search needs)
     (λ c κs. search needs)
     (λ c. search needs)

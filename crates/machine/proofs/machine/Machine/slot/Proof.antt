@@ -1,5 +1,5 @@
--- `Machine::slot` meets its contract.
-use Prim.Native.Nat.{_≤_}
+-- `Machine::slot` meets its contract: each refusal in its order, and then the four steps.
+use Prim.Native.Nat.{ℕ, _≤_}
 use native.Mathlib.Omega.{arith}
 use mathlib.Core.Path.{_≡_, sym, ap, _∙_}
 use mathlib.Core.Bool.{true}
@@ -7,29 +7,39 @@ use borrow.Author.Needs.{needs}
 use Rattle.laws.proofs.Booleans.{was-true, was-false}
 use Rattle.machine.specs.declared.machine.Machine.{Machine}
 use Rattle.machine.specs.declared.pick.Ranks.{Ranks}
-use Rattle.machine.specs.Pick.{openCount, runnerCount, runners}
+use Rattle.machine.specs.Pick.{openCount, pick, runnerCount, runners}
 use Rattle.machine.specs.Sound.{sound}
-use Rattle.machine.specs.Calls.{slot}
+use Rattle.machine.specs.Calls.{slotCoresInRange, slot}
 use Rattle.machine.proofs.SoundLaws.{sound-passes}
 use Rattle.machine.proofs.RunnersLegal.{runners-number}
 use Rattle.machine.proofs.machine.Machine.slot.Statement.{statement}
 use Rattle.machine.proofs.machine.Machine.slot.Tie as tie
 
--- the machine is sound here, so it has 32 tasks at most
+-- past refusal 0 the machine is sound
 is-sound : (c : tie.Else1) → sound (c .before .before .args .self) ≡ true
 is-sound c = was-true (c .before .is-sound .ensures) (c .if1 .left)
 
-fits : (c : tie.Else1) → c .before .before .args .self .table .count ≤ 32
-fits c = sound-passes _ (is-sound c) .count-fits
+-- past refusal 14 the slot has cores enough, and the machine has 32 tasks at most
+in-range : (c : tie.Else2) → let a = c .before .before .before .before .args in slotCoresInRange (a .self) (a .available) ≡ true
+in-range c = was-true (c .before .slot-cores-in-range .ensures) (c .if2 .left)
+
+fits : (c : tie.Else2) → c .before .before .before .before .args .self .table .count ≤ 32
+fits c = sound-passes _ (is-sound (c .before .before)) .count-fits
 
 -- no more run than are open
-few : (m : Machine) → runnerCount m ≤ openCount m
+few : (m : Machine) (k : ℕ) → runnerCount m k ≤ openCount m
 unfolding runnerCount
-few m = omega arith
+few m k = omega arith
 
 returns : tie.Need-returns
 unfolding slot
 returns c = rw (was-false (c .before .before .is-sound .ensures) (c .before .if1 .taken)) (c .refused .ensures)
+
+returns-2 : tie.Need-returns-2
+unfolding slot
+returns-2 c =
+    let tested = c .before .before in
+    rw (is-sound (tested .before), was-false (tested .slot-cores-in-range .ensures) (c .before .if2 .taken)) (c .refused2 .ensures)
 
 ranks-requires : tie.Need-ranks-requires
 ranks-requires c κs = fits c
@@ -39,25 +49,31 @@ runner-count-requires c κs = ap (λ (r : Ranks). r .found) (c .before .ranks .e
 
 pick-requires : tie.Need-pick-requires
 pick-requires c κs =
-    let r = c .before .before in (
-      is-sound (r .before),
+    let r = c .before .before in
+    let a = r .before .before .before .before .before .args in (
+      is-sound (r .before .before .before),
       ap (λ (r : Ranks). r .ranks) (r .ranks .ensures),
-      rw (c .runner-count .ensures) (few (r .before .before .before .args .self)),
+      rw (c .runner-count .ensures) (few (a .self) (a .available)),
     )
 
+-- the place past the refusals, from the place after the pick
+abbrev past : tie.After-pick → tie.Else2
+past c = c .before .before .before .before
+
 -- who is picked are the machine's runners
-ran-are : (c : tie.After-pick) → c .pick .result ≡ runners (c .before .before .before .before .before .before .args .self)
+ran-are : (c : tie.After-pick) → let a = past c .before .before .before .before .args in c .pick .result ≡ runners (a .self) (a .available)
 unfolding runners
-ran-are c = c .pick .ensures ∙ rw (c .before .runner-count .ensures)
+ran-are c = c .pick .ensures ∙ ap (pick _) (c .before .runner-count .ensures)
 
 passed-requires : tie.Need-passed-requires
 passed-requires c κs =
-    let f = c .before .before .before .before in
-    (fits f, c .before .runner-count .ensures ∙ rw (ran-are c) (sym (runners-number _ (fits f))))
+    (fits (past c), c .before .runner-count .ensures ∙ rw (ran-are c) (sym (runners-number _ _ (fits (past c)))))
 
-returns-2 : tie.Need-returns-2
+returns-3 : tie.Need-returns-3
 unfolding slot
-returns-2 c = rw (is-sound (c .before .before .before .before .before), ← ran-are (c .before)) (c .passed .ensures)
+returns-3 c =
+    let p = past (c .before) in
+    rw (is-sound (p .before .before), in-range p, ← ran-are (c .before)) (c .passed .ensures)
 
 pub slot-spec : {M : Type 1} → statement M
 slot-spec =
@@ -66,8 +82,11 @@ slot-spec =
     (λ c κs. search needs)
     (λ c κs. search needs)
     returns
+    (λ c κs. search needs)
+    (λ c κs. search needs)
+    returns-2
     ranks-requires
     runner-count-requires
     pick-requires
     passed-requires
-    returns-2)
+    returns-3)

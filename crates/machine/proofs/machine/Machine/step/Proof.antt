@@ -14,11 +14,11 @@ returns-2 c = rw (c .before .before .call2 .given .1) (c .finish .ensures)
 
 returns-3 : tie.Need-returns-3
 unfolding step
-returns-3 c = rw (c .before .enum-told .given .1) (c .slot .ensures)
+returns-3 c = rw (c .before .before .call3 .given .1) (c .slot .ensures)
 
 returns-4 : tie.Need-returns-4
 unfolding step
-returns-4 c = rw (c .before .before .call3 .given .1) (c .join .ensures)
+returns-4 c = rw (c .before .before .call4 .given .1) (c .join .ensures)
 
 pub step-spec : {M : Type 1} → statement M
 step-spec =
