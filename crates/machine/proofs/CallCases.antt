@@ -1,12 +1,12 @@
 -- A call by what it came to: refused, with the machine as it was, or carried out, with what was found true first. Others cite `by-call`
 -- and the records of what an accepted call found.
-use Prim.Native.Nat.{ℕ, _-_, _<_}
+use Prim.Native.Nat.{ℕ, _-_}
 use mathlib.Core.Path.{_≡_}
 use mathlib.Core.Bool.{Bool, true, false, cond, not}
 use mathlib.Core.List.{List}
-use lib.Dec.{ltb}
+use lib.Dec.{leb, ltb}
 use native.Mathlib.Omega.{arith}
-use borrow.Author.Tests.{not-false, leb-false, ltb-false}
+use borrow.Author.Tests.{not-false, ltb-false}
 use Rattle.tasks.specs.declared.task.Task.{Task}
 use Rattle.tasks.specs.declared.outcome.Outcome.{Outcome}
 use Rattle.tasks.specs.declared.outcome.Outcome.the-variants.{Done, Refused}
@@ -59,7 +59,6 @@ pub record FinishTaken (m : Machine) (number : ℕ) : Type 0 where
 
 pub record JoinTaken (m : Machine) (t : Task) : Type 0 where
   pub is-sound : sound m ≡ true
-  pub room : m .table .count < maxTasks
   pub admits : judged (withTask (m .table) t) (m .cores) .admits ≡ true
 
 -- what holds of a refused call's answer and of each accepted call's holds of every call's
@@ -104,5 +103,5 @@ module _
     by-call (Join t) =
         past _ _ _ λ ok.
         past _ (not (inRange t)) _ λ in-range.
-        past _ _ _ λ room.
-        by-verdict t _ _ λ admits. record { is-sound = not-false _ ok; room = leb-false _ _ room; admits = admits }
+        past _ (leb maxTasks (m .table .count)) _ λ room.
+        by-verdict t _ _ λ admits. record { is-sound = not-false _ ok; admits = admits }

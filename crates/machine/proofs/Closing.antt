@@ -87,7 +87,7 @@ module _ (m : Machine) (i l b : ℕ) (going : Going m i l b) where
     unfolding isSlot tasksOf firstTasks withJoined withTask
     after-join t taken =
         after-other _ _ refl (kept-join m (going .kept) t taken) (omega (arith, going .inside))
-        (join-step m (going .kept .all-jobs) t (taken .room) .same-jobs i (going .inside))
+        (join-step m t .same-jobs i (going .inside))
 
   module _ (k : ℕ) (ran : List Bool) (legal : LegalSlot m ran) where
     -- what the answer says of task i

@@ -1,11 +1,12 @@
 -- An accepted release, finish and join are the theory's steps: `release-step`, `finish-step` and `join-step`. The job that a release opens is
--- `released-job`.
+-- `released-job`, and the jobs after a join are `old-job` and `new-job`.
 use Prim.Native.Nat.{ℕ, _-_, _<_}
 use mathlib.Core.Path.{_≡_}
-use lib.ListN.{length}
+use lib.ListN.{length, set, length-set, List·getD-eq-default}
 use lib.Seq.{getD-set-same, getD-set-other}
 use native.Mathlib.Numerals.{add-one}
 use native.Mathlib.Omega.{arith}
+use Rattle.laws.proofs.CaseSplits.{by-order}
 use Rattle.tasks.specs.declared.task.Task.{Task}
 use Rattle.tasks.specs.declared.table.Table.{Table}
 use Rattle.tasks.specs.Limits.{maxTasks}
@@ -65,14 +66,18 @@ same-task t k i h =
     let e = getD-set-other (t .tasks) (t .count) i k zeroTask (λ e. omega arith) in
     record { same-period = rw e; same-budget = rw e; same-deadline = rw e }
 
-module _ (m : Machine) (all-jobs : length (m .jobs) ≡ maxTasks) (t : Task) (room : m .table .count < maxTasks) where
-  old-job : (i : ℕ) → i < m .table .count → jobAt (withJoined m t) i ≡ jobAt m i
+module _ (m : Machine) (t : Task) where
+  pub old-job : (i : ℕ) → i < m .table .count → jobAt (withJoined m t) i ≡ jobAt m i
   unfolding withJoined jobAt
   old-job i h = getD-set-other (m .jobs) (m .table .count) i freshJob freshJob (λ e. omega arith)
 
-  new-job : jobAt (withJoined m t) (m .table .count) ≡ freshJob
+  -- past the last job that is recorded, a fresh one is read too
+  pub new-job : jobAt (withJoined m t) (m .table .count) ≡ freshJob
   unfolding withJoined jobAt
-  new-job = getD-set-same (m .jobs) (m .table .count) freshJob freshJob (omega arith)
+  new-job =
+      by-order (length (m .jobs)) (m .table .count)
+      (λ short. List·getD-eq-default (set (m .jobs) (m .table .count) freshJob) freshJob (omega (arith, length-set (m .jobs) (m .table .count) freshJob)))
+      (λ long. getD-set-same (m .jobs) (m .table .count) freshJob freshJob long)
 
   pub join-step : Joined (tasksOf (m .table)) (tasksOf (withTask (m .table) t)) (jobsOf m) (jobsOf (withJoined m t))
   unfolding jobsOf tasksOf firstTasks withTask freshJob

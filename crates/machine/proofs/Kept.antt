@@ -93,7 +93,7 @@ module _ (m : Machine) (kept : Kept m) where
   kept-join t taken =
       let longer = admits-means (withTask (m .table) t) (m .cores) (taken .admits) in
       record {
-        safe = safe-join _ _ _ _ _ (well-checked _ _ (longer .checks)) (join-step m (kept .all-jobs) t (taken .room)) (kept .safe);
+        safe = safe-join _ _ _ _ _ (well-checked _ _ (longer .checks)) (join-step m t) (kept .safe);
         admits = longer .admits;
         all-jobs = rw length-set (kept .all-jobs);
       }

@@ -8,6 +8,7 @@ pub mod SlotStep
 pub mod TaskNumbers
 pub mod CallCases
 pub mod JobSteps
+pub mod SoundKept
 pub mod Kept
 pub mod ClosesLaws
 pub mod Going

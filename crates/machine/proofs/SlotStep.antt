@@ -1,5 +1,5 @@
--- A slot of a sound machine in which a legal choice of its tasks ran (`LegalSlot`) is one of the theory's. Others cite: `slot-step`; and `late-is`
--- and `finished-is`, on the report.
+-- A slot of a sound machine in which a legal choice of its tasks ran (`LegalSlot`) is one of the theory's. Others cite: `slot-step`;
+-- `after-slot-job`, each job after the slot, whoever ran; and `late-is` and `finished-is`, on the report.
 use Prim.Native.Nat.{ℕ, _-_, _≤_, _<_}
 use mathlib.Core.Path.{_≡_, sym, _∙_}
 use mathlib.Core.Bool.{Bool, true, false, not, _&&_}
@@ -38,7 +38,7 @@ module _ (m : Machine) (ran : List Bool) where
   unfolding passed
   fresh-after i none = rw none (fresh-stays _)
 
-  after-slot-job : (i : ℕ) → i < m .table .count → jobAt (afterSlot m ran) i ≡ settled (passed m ran i)
+  pub after-slot-job : (i : ℕ) → i < m .table .count → jobAt (afterSlot m ran) i ≡ settled (passed m ran i)
   unfolding jobAt afterSlot
   after-slot-job i h =
       by-order (length (m .jobs)) i

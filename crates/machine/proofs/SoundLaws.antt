@@ -1,8 +1,8 @@
--- What a sound machine is. Others cite: `one-unsound`; `sound-checks` and `sound-passes`, that its table and cores pass `checked`; `sound-fits`,
+-- What a sound machine is. Others cite: `one-unsound`; `make-sound`; `sound-checks` and `sound-passes`, that its table and cores pass `checked`; `sound-fits`,
 -- that its tasks are well formed; `sound-job`, that each job is sound; `sound-closed`, that a closed task has no job; and `sound-left`, that the
 -- left of an open one has 32 bits.
 use Prim.Native.Nat.{ℕ, zero, suc, _<_}
-use mathlib.Core.Path.{_≡_}
+use mathlib.Core.Path.{_≡_, refl}
 use mathlib.Core.Bool.{true, false}
 use native.Mathlib.Omega.{arith}
 use Rattle.laws.proofs.CaseSplits.{by-equal, by-test, not-both}
@@ -19,7 +19,7 @@ use Rattle.tasks.proofs.OutcomeLaws.{is-done}
 use Rattle.tasks.proofs.TaskSetLaws.{well-checked}
 use Rattle.job.specs.Sound.{jobSound}
 use Rattle.job.specs.Rank.{later}
-use Rattle.job.proofs.SoundLaws.{closed-numbers, left-within}
+use Rattle.job.proofs.SoundLaws.{closed-numbers, open-numbers}
 use Rattle.machine.specs.Machine.{taskAt, jobAt}
 use Rattle.machine.specs.Sound.{jobsSound, sound}
 use Rattle.machine.specs.declared.machine.Machine.{Machine}
@@ -37,6 +37,19 @@ each-sound m (suc n) e i h =
 pub one-unsound : (m : Machine) (n i : ℕ) → jobSound (taskAt m i) (jobAt m i) ≡ false → i < n → jobsSound m n ≡ false
 one-unsound m n i e h =
     by-test (jobsSound m n) (λ all. not-both (jobSound (taskAt m i) (jobAt m i)) (each-sound m n all i h) e) (λ none. none)
+
+-- the other way round: every job is sound
+all-sound : (m : Machine) (n : ℕ) → ((i : ℕ) → i < n → jobSound (taskAt m i) (jobAt m i) ≡ true) → jobsSound m n ≡ true
+unfolding jobsSound
+all-sound m zero each = refl
+all-sound m (suc n) each = rw (all-sound m n (λ i h. each i (omega arith)), each n (omega arith))
+
+pub make-sound :
+    (m : Machine) → checked (m .table) (m .cores) ≡ Done
+    → ((i : ℕ) → i < m .table .count → jobSound (taskAt m i) (jobAt m i) ≡ true)
+    → sound m ≡ true
+unfolding sound isDone
+make-sound m checks each = rw (checks, all-sound m (m .table .count) each)
 
 module _ (m : Machine) (ok : sound m ≡ true) where
   pub sound-checks : checked (m .table) (m .cores) ≡ Done
@@ -62,4 +75,4 @@ module _ (m : Machine) (ok : sound m ≡ true) where
   pub sound-left : (i : ℕ) → i < m .table .count → jobAt m i .«open» ≡ true → jobAt m i .left < later
   unfolding taskAt
   sound-left i h o =
-      omega (arith, left-within (taskAt m i) (jobAt m i) (sound-job i h) o, range-of (taskAt m i) (sound-passes .tasks-fit i h))
+      omega (arith, open-numbers (taskAt m i) (jobAt m i) (sound-job i h) o, range-of (taskAt m i) (sound-passes .tasks-fit i h))

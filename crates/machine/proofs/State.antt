@@ -1,8 +1,9 @@
--- The machine's jobs as the theory's functions of an index: `jobsOf`. After one of them was set, that one is the new one (`job-set`), and the
--- others are as they were (`rest-same`, by `same-job`).
-use Prim.Native.Nat.{ℕ, _<_}
+-- The machine's jobs as the theory's functions of an index: `jobsOf`. After one of them was set, that one is the new one (`job-set`), or a fresh one
+-- past the last that is recorded (`job-unset`), and the others are as they were (`job-other`, and `rest-same` by `same-job`).
+use Prim.Native.Nat.{ℕ, _≤_, _<_}
+use native.Mathlib.Omega.{arith}
 use mathlib.Core.Path.{_≡_}
-use lib.ListN.{length}
+use lib.ListN.{length, set, length-set, List·getD-eq-default}
 use lib.Seq.{getD-set-same, getD-set-other}
 use Rattle.edzl.proofs.Invariant.{Jobs, SameJob}
 use Rattle.job.specs.Job.{freshJob}
@@ -28,6 +29,13 @@ module _ (m : Machine) (i : ℕ) (j : Job) where
   unfolding withJob jobAt
   job-set h = getD-set-same (m .jobs) i j freshJob h
 
-  pub rest-same : (k : ℕ) → (k ≡ i → ⊥) → SameJob (jobsOf m) (jobsOf (withJob m i j)) k
+  pub job-unset : length (m .jobs) ≤ i → jobAt (withJob m i j) i ≡ freshJob
   unfolding withJob jobAt
-  rest-same k ne = same-job m (withJob m i j) k (getD-set-other (m .jobs) i k j freshJob ne)
+  job-unset h = List·getD-eq-default (set (m .jobs) i j) freshJob (omega (arith, length-set (m .jobs) i j))
+
+  pub job-other : (k : ℕ) → (k ≡ i → ⊥) → jobAt (withJob m i j) k ≡ jobAt m k
+  unfolding withJob jobAt
+  job-other k ne = getD-set-other (m .jobs) i k j freshJob ne
+
+  pub rest-same : (k : ℕ) → (k ≡ i → ⊥) → SameJob (jobsOf m) (jobsOf (withJob m i j)) k
+  rest-same k ne = same-job m (withJob m i j) k (job-other k ne)

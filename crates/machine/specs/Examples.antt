@@ -149,7 +149,7 @@ examples =
     -- one open task on 16 cores
     sameNumbers (runnerCounts (answers example 2 (Release 2 ∷ replicate 3 (Slot 16)))) (1 ∷ 1 ∷ 0 ∷ []) ∷
     -- each slot has its own number: one task runs, then three, then two
-    runIs (replicate 3 (task 9 2 9)) 1 (releases 3 ++ Slot 1 ∷ Slot 3 ∷ Slot 2 ∷ []) []
+    runIs (replicate 3 (task 9 2 9)) 1 (releases 3 ++ Slot 1 ∷ Slot 4 ∷ Slot 2 ∷ []) []
     (line 1 0 0 ∷ line 7 1 0 ∷ line 6 6 0 ∷ []) ∷
     -- 32 tasks on 12 cores, admitted too: with 16 in every slot they run as on 16 cores, and with 12 they run later
     holds (verdictIs many 12 12 true) ∷

@@ -1,4 +1,4 @@
--- A list of calls played on a machine: document 01, "The slot machine".
+-- A list of calls played on a machine: document 01, "The slot machine". `play` gives what is answered, `machineAfter` the machine after it.
 use mathlib.Core.List.{List, [], _∷_}
 use Rattle.tasks.specs.declared.outcome.Outcome.{Outcome}
 use Rattle.machine.specs.Calls.{step}
@@ -18,3 +18,8 @@ play m [] = []
 play m (call ∷ calls) =
     let answer = step m call in
     record { call = call; outcome = answer .outcome; report = answer .report } ∷ play (answer .machine) calls
+
+-- the machine after a list of calls
+unfoldable pub machineAfter : Machine → List Call → Machine
+machineAfter m [] = m
+machineAfter m (call ∷ calls) = machineAfter (step m call .machine) calls

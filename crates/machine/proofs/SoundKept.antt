@@ -1,0 +1,142 @@
+-- Every machine of every list of calls from a start is sound and has the cores started on (`always-sound`), so that no call of such a list is refused
+-- by 0. A slot of such a list is refused exactly where its cores are out of range (`slot-outcome`): no other refusal takes a slot out of the
+-- promise. Every call keeps a sound machine sound: `call-keeps`.
+use Prim.Native.Nat.{ℕ, _+_, _-_, _<_}
+use mathlib.Core.Path.{_≡_, refl, _∙_}
+use mathlib.Core.Bool.{Bool, true, false, cond, _&&_}
+use mathlib.Core.List.{List, [], _∷_}
+use native.Mathlib.Omega.{arith}
+use lib.Dec.{leb}
+use lib.ListN.{length, getD}
+use lib.Seq.{getD-set-other}
+use Rattle.laws.proofs.CaseSplits.{by-order, by-equal, by-test}
+use Rattle.laws.proofs.Replaced.{replicate-entry}
+use Rattle.tasks.specs.declared.task.Task.{Task}
+use Rattle.tasks.specs.declared.table.Table.{Table}
+use Rattle.tasks.specs.declared.outcome.Outcome.the-variants.{Done, Refused}
+use Rattle.tasks.specs.Limits.{maxTasks, maxCores}
+use Rattle.tasks.specs.Refusals.{slotCoresOutOfRange}
+use Rattle.tasks.specs.Check.{checked}
+use Rattle.tasks.specs.Table.{zeroTask, withTask}
+use Rattle.judge.proofs.Outcome.{admits-means}
+use Rattle.job.specs.declared.job.Job.{Job}
+use Rattle.job.specs.Job.{freshJob}
+use Rattle.job.specs.Sound.{jobSound}
+use Rattle.job.proofs.SoundLaws.{gap-within, fresh-sound, released-sound, ended-sound, slot-sound}
+use Rattle.machine.specs.Machine.{taskAt, jobAt, withJob}
+use Rattle.machine.specs.Slot.{passed, afterSlot}
+use Rattle.machine.specs.Sound.{sound}
+use Rattle.machine.specs.Calls.{done, refuse, startAfter, start, slotCoresInRange, slot, withJoined, step}
+use Rattle.machine.specs.Play.{machineAfter}
+use Rattle.machine.specs.declared.machine.Machine.{Machine}
+use Rattle.machine.specs.declared.call.Call.{Call}
+use Rattle.machine.proofs.State.{job-set, job-unset, job-other}
+use Rattle.machine.proofs.SoundLaws.{make-sound, sound-checks, sound-passes, sound-job}
+use Rattle.machine.proofs.SlotStep.{after-slot-job}
+use Rattle.machine.proofs.JobSteps.{old-job, new-job}
+use Rattle.machine.proofs.CallCases.{ReleaseTaken, FinishTaken, JoinTaken, afterRelease, afterFinish, by-call}
+
+-- the machine is sound, and has so many cores
+pub record SoundOn (cores : ℕ) (m : Machine) : Type 0 where
+  pub is-sound : sound m ≡ true
+  pub cores-are : m .cores ≡ cores
+
+module _ (m : Machine) (ok : sound m ≡ true) where
+  -- another job at an index, sound for the task there
+  set-sound : (i : ℕ) (j : Job) → jobSound (taskAt m i) j ≡ true → jobSound (taskAt m i) (jobAt (withJob m i j) i) ≡ true
+  set-sound i j fine =
+      by-order (length (m .jobs)) i
+      (λ short. rw (job-unset m i j short) (fresh-sound (taskAt m i)))
+      (λ long. rw (job-set m i j long) fine)
+
+  job-keeps : (i : ℕ) (j : Job) → jobSound (taskAt m i) j ≡ true → SoundOn (m .cores) (withJob m i j)
+  unfolding withJob taskAt
+  job-keeps i j fine =
+      record {
+        is-sound =
+            make-sound (withJob m i j) (sound-checks m ok)
+            (λ k h.
+            by-equal k i
+            (λ e. rw e (set-sound i j fine))
+            (λ ne. rw (job-other m i j k ne) (sound-job m ok k h)));
+        cores-are = refl;
+      }
+
+  release-keeps : (number : ℕ) → ReleaseTaken m number → SoundOn (m .cores) (afterRelease m number)
+  unfolding afterRelease taskAt
+  release-keeps number taken =
+      job-keeps (number - 1) _ (released-sound (taskAt m (number - 1)) (sound-passes m ok .tasks-fit (number - 1) (taken .task .inside)))
+
+  finish-keeps : (number : ℕ) → FinishTaken m number → SoundOn (m .cores) (afterFinish m number)
+  unfolding afterFinish
+  finish-keeps number taken =
+      let i : ℕ = number - 1 in
+      job-keeps i _ (ended-sound (taskAt m i) (jobAt m i) (gap-within (taskAt m i) (jobAt m i) (sound-job m ok i (taken .task .inside))))
+
+  -- whoever ran
+  slot-job : (ran : List Bool) (i : ℕ) → i < m .table .count → jobSound (taskAt m i) (jobAt (afterSlot m ran) i) ≡ true
+  unfolding passed
+  slot-job ran i h = rw (after-slot-job m ran i h) (slot-sound (taskAt m i) (jobAt m i) (getD ran i false) (sound-job m ok i h))
+
+  slot-keeps : (ran : List Bool) → SoundOn (m .cores) (afterSlot m ran)
+  unfolding afterSlot taskAt
+  slot-keeps ran = record { is-sound = make-sound (afterSlot m ran) (sound-checks m ok) (slot-job ran); cores-are = refl }
+
+  -- the tasks that a longer table had, with their jobs, and the new one
+  module _ (t : Task) where
+    old-task : (i : ℕ) → i < m .table .count → taskAt (withJoined m t) i ≡ taskAt m i
+    unfolding withJoined withTask taskAt
+    old-task i h = getD-set-other (m .table .tasks) (m .table .count) i t zeroTask (λ e. omega arith)
+
+    each-job : (i : ℕ) → i < m .table .count + 1 → jobSound (taskAt (withJoined m t) i) (jobAt (withJoined m t) i) ≡ true
+    each-job i h =
+        by-order (m .table .count) i
+        (λ last. let e : i ≡ m .table .count = omega arith in rw (e, new-job m t) (fresh-sound _))
+        (λ old. rw (old-task i old, old-job m t i old) (sound-job m ok i old))
+
+    join-keeps : JoinTaken m t → SoundOn (m .cores) (withJoined m t)
+    unfolding withJoined withTask
+    join-keeps taken =
+        record {
+          is-sound = make-sound (withJoined m t) (admits-means (withTask (m .table) t) (m .cores) (taken .admits) .checks) each-job;
+          cores-are = refl;
+        }
+
+  pub call-keeps : (call : Call) → SoundOn (m .cores) (step m call .machine)
+  call-keeps =
+      by-call m (λ call answer. SoundOn (m .cores) (answer .machine))
+      (λ call number place. record { is-sound = ok; cores-are = refl })
+      release-keeps
+      finish-keeps
+      (λ k ran legal. slot-keeps ran)
+      join-keeps
+
+module _ (t : Table) (cores : ℕ) (checks : checked t cores ≡ Done) where
+  fresh-on : SoundOn cores (start t cores .machine)
+  unfolding start startAfter done jobAt
+  fresh-on =
+      rw checks
+      (record {
+        is-sound = make-sound _ checks (λ i h. rw (replicate-entry maxTasks i freshJob) (fresh-sound _));
+        cores-are = refl;
+      })
+
+  after-more : (calls : List Call) (m : Machine) → SoundOn cores m → SoundOn cores (machineAfter m calls)
+  unfolding machineAfter
+  after-more [] m on = on
+  after-more (call ∷ calls) m on =
+      let next = call-keeps m (on .is-sound) call in
+      after-more calls (step m call .machine) (record { is-sound = next .is-sound; cores-are = next .cores-are ∙ on .cores-are })
+
+  pub always-sound : (calls : List Call) → SoundOn cores (machineAfter (start t cores .machine) calls)
+  always-sound calls = after-more calls (start t cores .machine) fresh-on
+
+  pub slot-outcome :
+      (calls : List Call) (k : ℕ)
+      → slot (machineAfter (start t cores .machine) calls) k .outcome
+      ≡ cond (leb cores k && leb k maxCores) Done (Refused slotCoresOutOfRange 0)
+  unfolding slot slotCoresInRange refuse
+  slot-outcome calls k =
+      let on = always-sound calls in
+      rw (on .is-sound, on .cores-are)
+      (by-test (leb cores k && leb k maxCores) (λ e. rw e) (λ e. rw e))
