@@ -75,9 +75,10 @@ module _ (m : Machine) (t : Task) where
   pub new-job : jobAt (withJoined m t) (m .table .count) ≡ freshJob
   unfolding withJoined jobAt
   new-job =
-      by-order (length (m .jobs)) (m .table .count)
-      (λ short. List·getD-eq-default (set (m .jobs) (m .table .count) freshJob) freshJob (omega (arith, length-set (m .jobs) (m .table .count) freshJob)))
-      (λ long. getD-set-same (m .jobs) (m .table .count) freshJob freshJob long)
+      let n = m .table .count in
+      by-order (length (m .jobs)) n
+      (λ short. List·getD-eq-default (set (m .jobs) n freshJob) freshJob (omega (arith, length-set (m .jobs) n freshJob)))
+      (λ long. getD-set-same (m .jobs) n freshJob freshJob long)
 
   pub join-step : Joined (tasksOf (m .table)) (tasksOf (withTask (m .table) t)) (jobsOf m) (jobsOf (withJoined m t))
   unfolding jobsOf tasksOf firstTasks withTask freshJob

@@ -1,6 +1,6 @@
--- What a sound machine is. Others cite: `one-unsound`; `make-sound`; `sound-checks` and `sound-passes`, that its table and cores pass `checked`; `sound-fits`,
--- that its tasks are well formed; `sound-job`, that each job is sound; `sound-closed`, that a closed task has no job; and `sound-left`, that the
--- left of an open one has 32 bits.
+-- What a sound machine is. Others cite: `one-unsound`, and `make-sound`, from its table, cores and jobs; `sound-checks` and `sound-passes`, that its
+-- table and cores pass `checked`; `sound-fits`, that its tasks are well formed; `sound-job`, that each job is sound; `sound-closed`, that a closed
+-- task has no job; and `sound-left`, that the left of an open one has 32 bits.
 use Prim.Native.Nat.{ℕ, zero, suc, _<_}
 use mathlib.Core.Path.{_≡_, refl}
 use mathlib.Core.Bool.{true, false}

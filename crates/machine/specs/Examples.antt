@@ -1,17 +1,22 @@
 -- Examples beside the cases of document 01, as entries of lists of computed tests; above 150 lines because it is these lists alone, with the words
 -- that they are written in. `examples` has runs of the machine: 32 tasks on 16 cores, joins, a task that turns urgent, refused calls, slots with
--- other cores than the machine's. `claims` has logs made by hand, and what the claim of demand 3 says of them. `allTrue` is the test; the theorems stand in proofs/ExamplesHold.antt.
-use Prim.Native.Nat.{ℕ}
+-- other cores than the machine's (document 02, change 1). `claims` has logs made by hand, and what the claim of demand 3 says of them. `allTrue` is
+-- the test; the theorems stand in proofs/ExamplesHold.antt.
+use Prim.Native.Nat.{ℕ, _+_}
 use mathlib.Core.Bool.{Bool, true, false, cond, not, _&&_}
 use mathlib.Core.List.{List, [], _∷_, _++_}
 use lib.Dec.{eqb}
-use lib.ListN.{replicate, drop}
+use lib.ListN.{replicate, take, drop}
 use Rattle.edzl.specs.Sums.{bit}
 use Rattle.tasks.specs.declared.task.Task.{Task}
 use Rattle.tasks.specs.declared.outcome.Outcome.{Outcome}
 use Rattle.tasks.specs.declared.outcome.Outcome.the-variants.{Done, Refused}
 use Rattle.tasks.specs.Refusals.{unsoundMachine}
-use Rattle.machine.specs.Machine.{zeroMachine}
+use Rattle.tasks.specs.Limits.{maxTasks}
+use Rattle.tasks.specs.Table.{emptyTable}
+use Rattle.job.specs.Job.{freshJob}
+use Rattle.machine.specs.declared.machine.Machine.{Machine}
+use Rattle.machine.specs.Mask.{mask}
 use Rattle.machine.specs.Slot.{noReport}
 use Rattle.machine.specs.Calls.{start}
 use Rattle.machine.specs.Play.{Entry, play}
@@ -34,7 +39,7 @@ unfoldable pub refusals : List Entry → List ℕ
 refusals [] = []
 refusals (e ∷ log) = refusalBefore (e .outcome) (refusals log)
 
--- the number of runners that each slot gives
+-- the number of runners that each accepted slot gives
 unfoldable pub runnerCounts : List Entry → List ℕ
 runnerCounts [] = []
 runnerCounts (e ∷ log) = cond (acceptedSlot e) (e .report .runners ∷ runnerCounts log) (runnerCounts log)
@@ -46,7 +51,7 @@ sameNumbers [] (y ∷ t) = false
 sameNumbers (x ∷ s) [] = false
 sameNumbers (x ∷ s) (y ∷ t) = eqb x y && sameNumbers s t
 
--- the calls are refused with these numbers, the others carried out, and the slots report these lines
+-- the calls are refused with these numbers, the others carried out, and the accepted slots report these lines
 unfoldable pub runIs : List Task → (cores : ℕ) → List Call → (numbers : List ℕ) → List Line → Bool
 runIs tasks cores calls numbers lines =
     let log = answers tasks cores calls in sameNumbers (refusals log) numbers && sameLines (slotLines log) lines
@@ -72,12 +77,33 @@ manyLines =
     line 0 0 0 ∷
     []
 
--- a task that must run in both slots to its deadline, and calls that release it on 2 cores with two refused slots before them
+-- a task that must run in both slots to its deadline
 unfoldable pub pressed : List Task
 pressed = task 4 2 2 ∷ []
 
+-- its release on 2 cores, then two slots that are refused, then its two slots
 unfoldable pub pressedCalls : List Call
 pressedCalls = Release 1 ∷ Slot 1 ∷ Slot 1 ∷ Slot 2 ∷ Slot 2 ∷ []
+
+-- a slot with k cores between its two slots is refused by 14 and changes nothing: a job that aged in it would be late
+unfoldable pub ignoredSlot : (k : ℕ) → Bool
+ignoredSlot k = ignoredIs pressed 2 (Release 1 ∷ Slot 2 ∷ []) (Slot k) 14 (Slot 2 ∷ []) (line 1 0 0 ∷ line 1 1 0 ∷ [])
+
+-- the outcome is a refusal at place 0
+unfoldable pub atPlace0 : Outcome → Bool
+atPlace0 Done = false
+atPlace0 (Refused number place) = eqb place 0
+
+-- the calls are refused, each at place 0 with a report that "names no task and gives 0 runners"
+unfoldable pub emptyRefusals : List Entry → Bool
+emptyRefusals [] = true
+emptyRefusals (e ∷ log) =
+    let r = e .report in
+    atPlace0 (e .outcome) && eqb (mask (r .ran) + mask (r .finished) + mask (r .late) + r .runners) 0 && emptyRefusals log
+
+-- a machine made by hand that is unsound: it has 2 cores and no task
+unfoldable pub withoutTasks : Machine
+withoutTasks = record { table = emptyTable; cores = 2; jobs = replicate maxTasks freshJob }
 
 -- a table that a third task like the two fills beyond its cores
 unfoldable pub whole : List Task
@@ -134,15 +160,17 @@ examples =
     -- a finish before the job has run: the task stays idle, and its gap stays
     runIs example 2 (Release 1 ∷ Release 2 ∷ Finish 2 ∷ Release 2 ∷ replicate 2 (Slot 2)) (9 ∷ []) (line 1 1 0 ∷ line 0 0 0 ∷ []) ∷
     -- refused slots between two accepted ones: of 0 cores, of one fewer than the machine's, of 17 and of the largest number
-    ignored (Slot 0) 14 ∷
-    ignored (Slot 1) 14 ∷
-    ignored (Slot 17) 14 ∷
-    ignored (Slot 4_294_967_295) 14 ∷
-    -- an unsound machine is told before the slot's cores
-    sameNumbers (refusals (play zeroMachine (Slot 0 ∷ Slot 17 ∷ []))) (0 ∷ 0 ∷ []) ∷
+    ignoredSlot 0 ∷
+    ignoredSlot 1 ∷
+    ignoredSlot 17 ∷
+    ignoredSlot 4_294_967_295 ∷
+    -- an unsound machine is told before the slot's cores, below its own and above 16
+    sameNumbers (refusals (play withoutTasks (Slot 1 ∷ Slot 17 ∷ []))) (0 ∷ 0 ∷ []) ∷
     -- two refused slots do not bring the deadline nearer: the job has its two slots after them
     holds (verdictIs pressed 2 1 true) ∷
     runIs pressed 2 pressedCalls (14 ∷ 14 ∷ []) (line 1 0 0 ∷ line 1 1 0 ∷ []) ∷
+    -- and they tell nothing but their number
+    emptyRefusals (take 2 (drop 1 (answers pressed 2 pressedCalls))) ∷
     -- more open tasks than the machine's cores and fewer than the slot's: all run
     runIs example 2 (releases 3 ++ Slot 4 ∷ []) [] (line 7 1 0 ∷ []) ∷
     sameNumbers (runnerCounts (answers example 2 (releases 3 ++ Slot 4 ∷ []))) (3 ∷ []) ∷

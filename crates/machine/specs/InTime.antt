@@ -39,15 +39,15 @@ acceptedSlot e = isDone (e .outcome) && isSlot (e .call)
 unfoldable pub acceptedFinish : (number : ℕ) → Entry → Bool
 acceptedFinish number e = isDone (e .outcome) && isFinishOf number (e .call)
 
--- a slot's answer says that the task ran
+-- an accepted slot's answer says that the task ran
 unfoldable pub saysRan : (number : ℕ) → Entry → Bool
 saysRan number e = acceptedSlot e && getD (e .report .ran) (number - 1) false
 
--- a slot's answer says that the task finished
+-- an accepted slot's answer says that the task finished
 unfoldable pub saysFinished : (number : ℕ) → Entry → Bool
 saysFinished number e = acceptedSlot e && getD (e .report .finished) (number - 1) false
 
--- "only accepted slots are counted"
+-- "only accepted slots are counted"; document 02, change 1: a slot with cores out of range "counts as no slot in anybody's D"
 unfoldable pub slotCount : List Entry → ℕ
 slotCount [] = 0
 slotCount (e ∷ log) = cond (acceptedSlot e) (suc (slotCount log)) (slotCount log)
@@ -99,7 +99,8 @@ pub record InTime (t : Table) (log : List Entry) : Type 0 where
       → let task = getD (tableAfter t before .tasks) (number - 1) zeroTask in
       task .deadline ≤ slotCount after → closedBySlot number task after ≡ true
 
--- the claim of every list of calls from a fresh machine on a table that is admitted
+-- the claim of every list of calls from a fresh machine on a table that is admitted; document 02, change 1: "whichever k, from m to 16, each slot
+-- gets", since the slots of a list name any k
 unfoldable pub Promise : Table → (cores : ℕ) → Type 0
 Promise t cores = judged t cores .admits ≡ true → (calls : List Call) → InTime t (play (start t cores .machine) calls)
 

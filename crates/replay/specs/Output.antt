@@ -45,7 +45,8 @@ refusalRoom = 32
 abbrev pub answerRoom : ℕ
 answerRoom = 44
 
--- bytes of the output that are enough for each byte of the calls: the line of a call has at least 6 bytes, and its answer's at most 44
+-- bytes of the output that are enough for each byte of the calls: the line of a call has at least 6 bytes, its word and byte 10, and its answer's at
+-- most 44
 abbrev pub callRoom : ℕ
 callRoom = 8
 

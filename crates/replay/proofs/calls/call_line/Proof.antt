@@ -19,53 +19,35 @@ use borrow.Author.Needs.{needs}
 use Rattle.replay.proofs.calls.call_line.Statement.{statement}
 use Rattle.replay.proofs.calls.call_line.Tie as tie
 
--- the line, and the places where a slot, a release and a finish were tried
-abbrev line : tie.After-number-after → List ℕ
-line c = c .before .before .before .args .line .now
+-- the line, from the place where it was no slot; and that place and the next, where it was no release either, from those after them
+abbrev line : tie.After-enum-told → List ℕ
+line c = c .before .before .before .before .before .args .line .now
 
-abbrev slot-tried : tie.After-enum-told → tie.After-number-after
-slot-tried c = c .before .before
+abbrev past-slot : tie.After-enum-told2 → tie.After-enum-told
+past-slot c = c .before .before .before .before
 
-abbrev release-tried : tie.After-enum-told2 → tie.After-number-after2
-release-tried c = c .before .before
+abbrev past-release : tie.After-enum-told3 → tie.After-enum-told2
+past-release c = c .before .before .before .before
 
-abbrev finish-tried : tie.After-enum-told3 → tie.After-number-after3
-finish-tried c = c .before .before
+no-slot : (c : tie.After-enum-told) → numberAfter maxDigits maxNumber slotWord (line c) ≡ Broken
+no-slot c = sym (c .before .before .number-after .ensures) ∙ c .enum-told .given .1
 
--- the place where it was no slot, and where it was no release either
-abbrev past-slot : tie.After-number-after2 → tie.After-enum-told
-past-slot c = c .before .before
+no-release : (c : tie.After-enum-told2) → numberAfter maxDigits maxNumber releaseWord (line (past-slot c)) ≡ Broken
+no-release c = sym (c .before .before .number-after2 .ensures) ∙ c .enum-told2 .given .1
 
-abbrev past-release : tie.After-number-after3 → tie.After-enum-told2
-past-release c = c .before .before
-
-no-slot : (c : tie.After-enum-told) → numberAfter maxDigits maxNumber slotWord (line (slot-tried c)) ≡ Broken
-no-slot c = sym (slot-tried c .number-after .ensures) ∙ c .enum-told .given .1
-
-abbrev line2 : tie.After-number-after2 → List ℕ
-line2 c = line (slot-tried (past-slot c))
-
-no-release : (c : tie.After-enum-told2) → numberAfter maxDigits maxNumber releaseWord (line2 (release-tried c)) ≡ Broken
-no-release c = sym (release-tried c .number-after2 .ensures) ∙ c .enum-told2 .given .1
-
-abbrev line3 : tie.After-number-after3 → List ℕ
-line3 c = line2 (release-tried (past-release c))
-
-no-finish : (c : tie.After-enum-told3) → numberAfter maxDigits maxNumber finishWord (line3 (finish-tried c)) ≡ Broken
-no-finish c = sym (finish-tried c .number-after3 .ensures) ∙ c .enum-told3 .given .1
+no-finish : (c : tie.After-enum-told3) → numberAfter maxDigits maxNumber finishWord (line (past-slot (past-release c))) ≡ Broken
+no-finish c = sym (c .before .before .number-after3 .ensures) ∙ c .enum-told3 .given .1
 
 -- it is none of the three: a join, or no call
 joins :
     (c : tie.After-enum-told3)
-    → let l = line3 (finish-tried c) in callOf l ≡ cond (beginsWith joinWord l) (joinOf (drop (length joinWord) l)) Bad
+    → let l = line (past-slot (past-release c)) in callOf l ≡ cond (beginsWith joinWord l) (joinOf (drop (length joinWord) l)) Bad
 unfolding callOf callWith
-joins c =
-    let f = past-release (finish-tried c) in
-    rw (no-slot (past-slot (release-tried f)), no-release f, no-finish c)
+joins c = let r = past-release c in rw (no-slot (past-slot r), no-release r, no-finish c)
 
 -- it begins with the word of a join, whose fields follow
 abbrev join-line : tie.Else1 → List ℕ
-join-line c = line3 (finish-tried (c .before .before .before))
+join-line c = line (past-slot (past-release (c .before .before .before)))
 
 begins : (c : tie.Else1) → beginsWith joinWord (join-line c) ≡ true
 begins c = was-true (c .before .begins-with .ensures) (c .if1 .left)
@@ -78,22 +60,20 @@ join-is c = joins (c .before .before .before) ∙ rw (begins c) (ap joinOf (sym 
 
 returns : tie.Need-returns
 unfolding callOf callWith
-returns c = let n = c .before in rw (sym (n .before .before .number-after .ensures) ∙ n .available .given .1)
+returns c = rw (sym (c .before .before .before .number-after .ensures) ∙ c .before .available .given .1)
 
 returns-2 : tie.Need-returns-2
 unfolding callOf callWith
 returns-2 c =
-    let n = c .before in
-    let t = n .before .before in
-    rw (no-slot (past-slot t), sym (t .number-after2 .ensures) ∙ n .number .given .1)
+    let n = c .before .before .before in
+    rw (no-slot (n .before .before), sym (n .number-after2 .ensures) ∙ c .before .number .given .1)
 
 returns-3 : tie.Need-returns-3
 unfolding callOf callWith
 returns-3 c =
-    let n = c .before in
-    let t = n .before .before in
-    let f = past-release t in
-    rw (no-slot (past-slot (release-tried f)), no-release f, sym (t .number-after3 .ensures) ∙ n .number2 .given .1)
+    let n = c .before .before .before in
+    let r = n .before .before in
+    rw (no-slot (past-slot r), no-release r, sym (n .number-after3 .ensures) ∙ c .before .number2 .given .1)
 
 returns-4 : tie.Need-returns-4
 returns-4 c = sym (joins (c .before .before .before) ∙ rw (was-false (c .before .begins-with .ensures) (c .if1 .taken)))
