@@ -66,17 +66,6 @@ ignoredIs tasks cores before call number after lines =
 unfoldable pub many : List Task
 many = replicate 20 (task 40 2 20) ++ replicate 12 (task 40 3 7)
 
--- what its session on 16 cores reports: tasks 21 to 32 and 1 to 4 run first, then tasks 5 to 8, then 9 to 20
-unfoldable pub manyLines : List Line
-manyLines =
-    line 4_293_918_735 0 0 ∷
-    line 4_293_918_735 15 0 ∷
-    line 4_293_918_960 4_293_918_720 0 ∷
-    line 1_048_560 240 0 ∷
-    line 1_048_320 1_048_320 0 ∷
-    line 0 0 0 ∷
-    []
-
 -- a task that must run in both slots to its deadline
 unfoldable pub pressed : List Task
 pressed = task 4 2 2 ∷ []
@@ -125,8 +114,16 @@ examples =
     -- 32 tasks on 16 cores: COUNT 12, admitted; on 11 cores the same COUNT, refused
     holds (verdictIs many 16 12 true) ∷
     holds (verdictIs many 11 12 false) ∷
-    -- all 32 released
-    holds (sessionIs many 16 manyLines) ∷
+    -- all 32 released: tasks 21 to 32 and 1 to 4 run first, then tasks 5 to 8, then 9 to 20
+    holds
+    (sessionIs many 16
+    (line 4_293_918_735 0 0 ∷
+    line 4_293_918_735 15 0 ∷
+    line 4_293_918_960 4_293_918_720 0 ∷
+    line 1_048_560 240 0 ∷
+    line 1_048_320 1_048_320 0 ∷
+    line 0 0 0 ∷
+    [])) ∷
     -- 16 run while 16 or more are open, then 12, then none
     sameNumbers (runnerCounts (answers many 16 (releases 32 ++ replicate 6 (Slot 16))))
     (16 ∷ 16 ∷ 16 ∷ 16 ∷ 12 ∷ 0 ∷ []) ∷
@@ -176,13 +173,9 @@ examples =
     sameNumbers (runnerCounts (answers example 2 (releases 3 ++ Slot 4 ∷ []))) (3 ∷ []) ∷
     -- one open task on 16 cores
     sameNumbers (runnerCounts (answers example 2 (Release 2 ∷ replicate 3 (Slot 16)))) (1 ∷ 1 ∷ 0 ∷ []) ∷
-    -- each slot has its own number: one task runs, then three, then two
-    runIs (replicate 3 (task 9 2 9)) 1 (releases 3 ++ Slot 1 ∷ Slot 4 ∷ Slot 2 ∷ []) []
-    (line 1 0 0 ∷ line 7 1 0 ∷ line 6 6 0 ∷ []) ∷
-    -- 32 tasks on 12 cores, admitted too: with 16 in every slot they run as on 16 cores, and with 12 they run later
-    holds (verdictIs many 12 12 true) ∷
-    runIs many 12 (releases 32 ++ replicate 6 (Slot 16)) [] manyLines ∷
-    sameNumbers (runnerCounts (answers many 12 (releases 32 ++ replicate 7 (Slot 12)))) (12 ∷ 12 ∷ 12 ∷ 12 ∷ 12 ∷ 8 ∷ 8 ∷ []) ∷
+    -- each slot has its own number: two of three open tasks run, then one, then the other two
+    runIs (replicate 3 (task 9 2 9)) 1 (releases 3 ++ Slot 2 ∷ Slot 1 ∷ Slot 4 ∷ []) []
+    (line 3 0 0 ∷ line 1 1 0 ∷ line 6 2 0 ∷ []) ∷
     []
 
 -- a slot of a log made by hand, by what it says of task 1: whether it ran, and whether it finished; of the others it says nothing
