@@ -72,13 +72,16 @@ static bool release(struct machine *machine, size_t number)
     return true;
 }
 
-/* Whether an open job precedes another that has a lower number. */
+/* Whether an open job precedes another that has a lower number. Of two that are equal in
+ * urgency and left, it does so only if it owes more. */
 static bool precedes(const struct job *x, const struct job *y)
 {
     bool urgent = x->left <= x->budget;
     if (urgent != (y->left <= y->budget))
         return urgent;
-    return x->left < y->left;
+    if (x->left != y->left)
+        return x->left < y->left;
+    return x->budget > y->budget;
 }
 
 /* The open task, not yet picked, that goes before all others. */

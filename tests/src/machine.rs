@@ -1,6 +1,8 @@
 //! The dispatching machine: document 01, "The slot machine", with the refusals
-//! of "Why a call is not carried out", and change 1 of document 02: each slot
-//! names its cores.
+//! of "Why a call is not carried out", and changes 1 and 2 of document 02: each
+//! slot names its cores, and of equal deadlines the longer job goes first.
+
+use std::cmp::Reverse;
 
 use crate::tasks::{MOST_CORES, MOST_TASKS, Refusal, Task};
 use crate::window::judge;
@@ -149,10 +151,11 @@ impl Machine {
         order
     }
 
-    // Urgent before not urgent; then smaller left; then lower number.
-    fn precedence(&self, index: usize) -> (bool, u32, usize) {
+    // Urgent before not urgent; then smaller left; then larger budget still owed;
+    // then lower number.
+    fn precedence(&self, index: usize) -> (bool, u32, Reverse<u32>, usize) {
         let job = &self.jobs[index];
-        (!job.urgent(), job.left, index)
+        (!job.urgent(), job.left, Reverse(job.budget), index)
     }
 
     // Step 4: budget 0 closes as finished, any other with left 0 closes as late.

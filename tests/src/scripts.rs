@@ -86,6 +86,7 @@ pub fn script(seed: u64, index: u64) -> Script {
         3..=5 => growing(&mut random),
         6..=8 => overloaded(&mut random),
         9..=23 => packed(&mut random),
+        24..=26 => tied(&mut random),
         _ => near_edge(&mut random),
     };
     assert!(script.text().len() <= MOST_SCRIPT_BYTES);
@@ -154,15 +155,36 @@ fn overloaded(random: &mut Random) -> Script {
 // compete for the cores and turn urgent.
 fn packed(random: &mut Random) -> Script {
     let cores = random.pick(&[1, 2, 2, 2, 3, 3, 3, 4, 5, 6, 8, MOST_CORES]);
-    let mut table = vec![short(random)];
+    let table = filled(random, cores, short);
+    let rates = random.pick(&[PERIODIC, PERIODIC, DENSE, BUSY]);
+    on_table(random, cores, &table, rates)
+}
+
+// Tasks that share a period and a deadline and differ in their budgets: jobs that
+// are released together stay equal in left. With a core fewer some are late.
+fn tied(random: &mut Random) -> Script {
+    let cores = random.pick(&[1, 2, 2, 3, 3, 4, 8, MOST_CORES]);
+    let shapes = if random.one_in(8) {
+        neighbours(random)
+    } else {
+        [short(random), short(random)]
+    };
+    let table = filled(random, cores, |random| any_budget(random, &shapes));
+    let fewer = u32::from(cores > 1 && random.one_in(3));
+    let rates = random.pick(&[PERIODIC, PERIODIC, BUSY]);
+    on_table(random, cores - fewer, &table, rates)
+}
+
+// A table that is admitted and hardly takes another such task.
+fn filled(random: &mut Random, cores: u32, task: impl Fn(&mut Random) -> Task) -> Vec<Task> {
+    let mut table = vec![task(random)];
     for _ in 0..100 {
-        table.push(short(random));
+        table.push(task(random));
         if !judge(&table, cores).is_ok_and(|verdict| verdict.admitted) {
             table.pop();
         }
     }
-    let rates = random.pick(&[PERIODIC, PERIODIC, DENSE, BUSY]);
-    on_table(random, cores, &table, rates)
+    table
 }
 
 // Both sides of the m from which on the table is admitted, or any m.
@@ -210,6 +232,20 @@ fn short(random: &mut Random) -> Task {
         _ => random.between(1, deadline),
     };
     Task::new(period, budget, deadline)
+}
+
+// Long deadlines one slot apart: a rank in which the largest budgets reach into
+// left would confuse their order.
+fn neighbours(random: &mut Random) -> [Task; 2] {
+    let deadline = random.between(LONGEST_PERIOD / 2, LONGEST_PERIOD - 1);
+    [deadline, deadline + 1].map(|deadline| Task::new(LONGEST_PERIOD, 1, deadline))
+}
+
+// The period and deadline of one of the tasks, and any budget.
+fn any_budget(random: &mut Random, shapes: &[Task]) -> Task {
+    let shape = random.pick(shapes);
+    let budget = random.between(1, shape.deadline);
+    Task::new(shape.period, budget, shape.deadline)
 }
 
 fn heavy(random: &mut Random) -> Task {

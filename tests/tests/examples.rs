@@ -45,11 +45,15 @@ fn scripts() {
         "refusals.replay",
         "REFUSED 8\nREFUSED 8\nREFUSED 11\nDONE\nREFUSED 9\nDONE\nREFUSED 11\nREFUSED 9\nREFUSED 5\nREFUSED 13\nREFUSED 14\nREFUSED 14\n0 0 0 0\n",
     );
+    check_script(
+        "ties.replay",
+        "DONE\nDONE\n2 0 0 1\n2 0 0 1\n1 1 0 1\n2 2 0 1\n",
+    );
 }
 
 // Every file of the folder is one of those above.
 #[test]
 fn no_example_is_left_out() {
     let path = Path::new(env!("CARGO_MANIFEST_DIR")).join("../examples");
-    assert_eq!(fs::read_dir(path).expect("the folder").count(), 7);
+    assert_eq!(fs::read_dir(path).expect("the folder").count(), 8);
 }

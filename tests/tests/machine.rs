@@ -1,6 +1,7 @@
 //! The simulated machine by itself, on machines made by hand: numbers 0 and 10,
 //! which no list of calls from a start can meet (document 01, "Why a call is
-//! not carried out"), and refusals that leave the machine as it was.
+//! not carried out"), refusals that leave the machine as it was, and precedence
+//! at the limits of left and budget.
 
 use edzl_tests::machine::{Job, Machine};
 use edzl_tests::tasks::{Refusal, Task};
@@ -121,6 +122,40 @@ fn runners_of_a_slot() {
     ] {
         let slot = machine.clone().slot(cores).expect("a slot");
         assert_eq!((slot.ran, slot.runners), (ran, runners), "k = {cores}");
+    }
+}
+
+// Who of two jobs, each as left and budget, runs on 1 core: also at numbers that
+// no script is long enough to reach.
+#[test]
+fn precedence_of_two_jobs() {
+    let most = 1_000_000;
+    let cases = [
+        // Urgent before not urgent, whatever left and budget are.
+        ((2, 1), (most, most), 2),
+        ((most, most), (2, 1), 1),
+        // Then the smaller left, urgent or not, against the largest budgets.
+        ((2, most), (1, 1), 2),
+        ((most, most), (999_999, 999_999), 2),
+        ((most, 999_999), (999_999, 1), 2),
+        // Then the larger budget, urgent or not.
+        ((1, 999_999), (1, most), 2),
+        ((1, most), (1, 1), 1),
+        ((most, 1), (most, 999_999), 2),
+        ((3, 2), (3, 1), 1),
+        // Then the lower number.
+        ((1, most), (1, most), 1),
+        ((most, 1), (most, 1), 1),
+    ];
+    for (one, other, runner) in cases {
+        let jobs = [one, other].map(|(left, budget)| job(true, left, budget, most));
+        let mut machine = Machine {
+            table: vec![Task::new(most, most, most); 2],
+            cores: 1,
+            jobs: jobs.to_vec(),
+        };
+        let slot = machine.slot(1).expect("a slot");
+        assert_eq!(slot.ran, runner, "{one:?} and {other:?}");
     }
 }
 

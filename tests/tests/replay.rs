@@ -12,7 +12,8 @@ use edzl_tests::machine::Slot;
 use edzl_tests::promise::Kept;
 use edzl_tests::script::{Answer, Call, Script, lines};
 use edzl_tests::tasks::MOST_TASKS;
-use edzl_tests::{program, promise, scripts, settings};
+use edzl_tests::ties::Ties;
+use edzl_tests::{program, promise, scripts, settings, ties};
 
 const SCRIPTS: u64 = 20_000;
 
@@ -42,8 +43,9 @@ const KINDS: [&str; 20] = [
 ];
 
 // What must happen among them, and nothing else may: no late job on an admitted
-// table, and no accepted join on a refused one.
-const EVENTS: [&str; 24] = [
+// table, no tie there among more urgent tasks than cores, and no accepted join on
+// a refused one.
+const EVENTS: [&str; 30] = [
     "a finish before the job ran",
     "a finish of a job that ran",
     "a job closed by a finish in time, table admitted",
@@ -64,11 +66,40 @@ const EVENTS: [&str; 24] = [
     "a slot of more than m runners, table refused",
     "a slot of nobody",
     "a slot that reports finished and late jobs",
+    "a slot that ties by number would change, among tasks not urgent, table admitted",
+    "a slot that ties by number would change, among tasks not urgent, table refused",
+    "a slot that ties by number would change, among urgent tasks, table refused",
+    "a slot that ties by the table's C would change, among tasks not urgent, table admitted",
+    "a slot that ties by the table's C would change, among tasks not urgent, table refused",
+    "a slot that ties by the table's C would change, among urgent tasks, table refused",
     "a table admitted",
     "a table grown to 32 tasks",
     "a table not admitted",
     "an accepted join, table admitted",
 ];
+
+// What shows that the budget breaks ties, on refused and on admitted tables.
+const TIES: [[&str; 2]; 4] = [
+    [
+        "a slot that ties by number would change, among urgent tasks, table refused",
+        "a slot that ties by number would change, among urgent tasks, table admitted",
+    ],
+    [
+        "a slot that ties by number would change, among tasks not urgent, table refused",
+        "a slot that ties by number would change, among tasks not urgent, table admitted",
+    ],
+    [
+        "a slot that ties by the table's C would change, among urgent tasks, table refused",
+        "a slot that ties by the table's C would change, among urgent tasks, table admitted",
+    ],
+    [
+        "a slot that ties by the table's C would change, among tasks not urgent, table refused",
+        "a slot that ties by the table's C would change, among tasks not urgent, table admitted",
+    ],
+];
+
+// Scripts for which each of them that can happen must be met once on average.
+const SCRIPTS_FOR_A_TIE: u64 = 10;
 
 // How often each kind and each event was met.
 #[derive(Default)]
@@ -112,6 +143,7 @@ impl Tally {
         self.changes_of_k(script, answers);
         self.finishes(script, answers);
         self.joins(script, answers, admitted);
+        self.ties(script, admitted);
     }
 
     fn kind(&mut self, kind: String) {
@@ -240,6 +272,23 @@ impl Tally {
         self.event("a table grown to 32 tasks", u64::from(full));
     }
 
+    // Accepted slots that would run other tasks if the budget broke no ties.
+    fn ties(&mut self, script: &Script, admitted: bool) {
+        let Ties {
+            by_number,
+            by_table,
+        } = ties::count(script);
+        let times = [
+            by_number.urgent,
+            by_number.not_urgent,
+            by_table.urgent,
+            by_table.not_urgent,
+        ];
+        for (names, times) in TIES.iter().zip(times) {
+            self.event(names[usize::from(admitted)], times);
+        }
+    }
+
     // Written past the test harness, which hides what a passing test prints.
     fn report(&self, scripts: u64, seed: u64) {
         let calls: u64 = self.kinds.values().sum();
@@ -255,7 +304,7 @@ impl Tally {
     }
 
     // A comparison that never met a kind of answer says nothing about it.
-    fn require(&self) {
+    fn require(&self, scripts: u64) {
         let kinds: Vec<&str> = self.kinds.keys().map(String::as_str).collect();
         assert_eq!(
             kinds, KINDS,
@@ -263,6 +312,11 @@ impl Tally {
         );
         let events: Vec<&str> = self.events.keys().copied().collect();
         assert_eq!(events, EVENTS, "the events met, and the expected ones");
+        let ties = TIES.as_flattened().iter();
+        for (name, times) in ties.filter_map(|name| self.events.get_key_value(name)) {
+            let least = scripts / SCRIPTS_FOR_A_TIE;
+            assert!(*times >= least, "{times} times, not {least}: {name}");
+        }
     }
 }
 
@@ -345,5 +399,5 @@ fn generated_scripts_through_replay() {
         }
     });
     tally.report(scripts, seed);
-    tally.require();
+    tally.require(scripts);
 }

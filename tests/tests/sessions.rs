@@ -1,32 +1,15 @@
-//! Literal sessions: cases j and k of document 01, "Cases at the edges", slots
-//! with cores of their own (document 02, change 1), and the two task sets that
-//! document 000 simulates.
+//! Literal sessions: cases j and k of document 01, "Cases at the edges", worked
+//! out afresh for change 2 of document 02, slots with cores of their own (its
+//! change 1), and the two task sets that document 000 simulates.
 
 use edzl_tests::program;
 use edzl_tests::script::{Answer, Call, Script, lines};
+use edzl_tests::sessions::{check, released_at_once, released_then, script};
 use edzl_tests::tasks::Task;
-use edzl_tests::texts::{ORDERS, write};
 
 const CASE_J: [Task; 3] = [Task::new(6, 2, 3), Task::new(6, 2, 3), Task::new(6, 5, 6)];
 const CASE_J_PRINTED: &str = "DONE\nDONE\nDONE\n\
     3 0 0 2\n5 1 0 2\n6 2 0 2\n4 0 0 1\n4 0 0 1\n4 4 0 1\n";
-
-// Every task released once, then so many slots on m cores.
-fn released_at_once(cores: u32, table: &[Task], slots: usize) -> Script {
-    released_then(cores, table, &vec![cores; slots])
-}
-
-// Every task released once, then a slot for each k.
-fn released_then(cores: u32, table: &[Task], slots: &[u32]) -> Script {
-    let numbers = (1..).zip(table);
-    let mut calls: Vec<Call> = numbers.map(|(i, _)| Call::Release(i)).collect();
-    calls.extend(slots.iter().map(|k| Call::Slot(*k)));
-    Script {
-        cores,
-        table: write(table, ORDERS[0]),
-        calls,
-    }
-}
 
 // Every task released at the start of each of its periods, slots on m cores.
 fn released_periodically(cores: u32, table: &[Task], slots: u32) -> Script {
@@ -36,29 +19,21 @@ fn released_periodically(cores: u32, table: &[Task], slots: u32) -> Script {
         calls.extend(due.map(|(number, _)| Call::Release(number)));
         calls.push(Call::Slot(cores));
     }
-    Script {
-        cores,
-        table: write(table, ORDERS[0]),
-        calls,
-    }
+    script(cores, table, calls)
 }
 
-// The same literal output by the simulated machine and by the program.
-fn check(script: &Script, expected: &str) {
-    assert_eq!(lines(&script.play()), expected, "the simulated machine");
-    let printed = String::from_utf8(program::replay_output(&script.text()));
-    assert_eq!(printed.as_deref(), Ok(expected), "replay");
-}
-
+// While both are open, tasks 1 and 2 owe the same, so the number decides.
 #[test]
 fn case_j() {
     check(&released_at_once(2, &CASE_J, 6), CASE_J_PRINTED);
 }
 
+// The two take turns: after an odd slot task 2 owes one more, after an even one
+// both owe the same. Task 1 has run three slots and task 2 two: both are late.
 #[test]
 fn case_k() {
     let table = [Task::new(5, 5, 5), Task::new(5, 5, 5)];
-    let expected = "DONE\nDONE\n1 0 0 1\n1 0 0 1\n1 0 0 1\n1 0 0 1\n1 1 2 1\n";
+    let expected = "DONE\nDONE\n1 0 0 1\n2 0 0 1\n1 0 0 1\n2 0 0 1\n1 0 3 1\n";
     check(&released_at_once(1, &table, 5), expected);
 }
 
@@ -142,13 +117,30 @@ fn the_k_that_are_accepted() {
     }
 }
 
-// 20 equal tasks on 1 core: each slot runs the first k.
+// 20 equal tasks on 1 core take turns: each slot runs the k tasks after those of
+// the slot before, from task 1 again after task 20. They are never urgent.
 #[test]
 fn more_open_tasks_than_k() {
     let slots: Vec<u32> = (1..=16).collect();
     let script = released_then(1, &[Task::new(99, 50, 99); 20], &slots);
-    let answer = |k: &u32| format!("{} 0 0 {k}\n", (1 << k) - 1);
+    // After k slots 1 + 2 + .. + k turns were taken.
+    let turns = |k: u32| k * (k + 1) / 2;
+    let ran = |k: u32| (turns(k - 1)..turns(k)).map(|turn| 1 << (turn % 20));
+    let answer = |k: &u32| format!("{} 0 0 {k}\n", ran(*k).sum::<u32>());
     let answers: String = slots.iter().map(answer).collect();
+    assert!(answers.starts_with("1 0 0 1\n6 0 0 2\n56 0 0 3\n960 0 0 4\n"));
+    check(&script, &("DONE\n".repeat(20) + &answers));
+}
+
+// Budgets so far apart that 16 slots leave their order: each slot runs the last k.
+#[test]
+fn more_open_tasks_than_k_and_the_last_owe_most() {
+    let slots: Vec<u32> = (1..=16).collect();
+    let table: Vec<Task> = (1..=20).map(|i| Task::new(999, 20 * i, 999)).collect();
+    let script = released_then(1, &table, &slots);
+    let answer = |k: &u32| format!("{} 0 0 {k}\n", ((1 << k) - 1) << (20 - k));
+    let answers: String = slots.iter().map(answer).collect();
+    assert!(answers.starts_with("524288 0 0 1\n786432 0 0 2\n917504 0 0 3\n"));
     check(&script, &("DONE\n".repeat(20) + &answers));
 }
 
@@ -193,13 +185,13 @@ fn precedence_on_more_cores_than_m() {
 }
 
 // Case k: a second core in every slot keeps both in time, one in a single slot
-// does not.
+// does not: from slot 2 on they take turns, and each is two slots short.
 #[test]
 fn case_k_on_more_cores() {
     let table = [Task::new(5, 5, 5), Task::new(5, 5, 5)];
     let expected = "DONE\nDONE\n3 0 0 2\n3 0 0 2\n3 0 0 2\n3 0 0 2\n3 3 0 2\n";
     check(&released_then(1, &table, &[2, 16, 2, 3, 2]), expected);
-    let expected = "DONE\nDONE\n3 0 0 2\n1 0 0 1\n1 0 0 1\n1 0 0 1\n1 1 2 1\n";
+    let expected = "DONE\nDONE\n3 0 0 2\n1 0 0 1\n2 0 0 1\n1 0 0 1\n2 0 3 1\n";
     check(&released_then(1, &table, &[16, 1, 1, 1, 1]), expected);
 }
 
@@ -215,6 +207,8 @@ fn a_slot_leaves_m() {
 
 // Document 000, section 4.2: under EDZL on two processors {(5,8), (1,2), (3,6),
 // (3,8)}, each task as (C, T), misses a deadline at time 24, the end of slot 24.
+// Here it does so in every order of the tasks. With ties by number alone it does
+// only where (5,8) stands before (3,8).
 #[test]
 fn document_000_a_deadline_miss_at_time_24() {
     let table = [
@@ -223,14 +217,16 @@ fn document_000_a_deadline_miss_at_time_24() {
         Task::new(6, 3, 6),
         Task::new(8, 3, 8),
     ];
-    assert_eq!(
-        first_late_slot(&released_periodically(2, &table, 24)),
-        Some(24)
-    );
+    let orders = orders(&table);
+    assert_eq!(orders.len(), 24);
+    for order in orders {
+        let late = first_late_slot(&released_periodically(2, &order, 24));
+        assert_eq!(late, Some(24), "{order:?}");
+    }
 }
 
 // The same section: {(2,3), (3,5), (1,3), (2,6)} on two processors meets all
-// deadlines for a hyper-period.
+// deadlines for a hyper-period. Here too, in every order of the tasks.
 #[test]
 fn document_000_no_deadline_miss() {
     let table = [
@@ -239,7 +235,25 @@ fn document_000_no_deadline_miss() {
         Task::new(3, 1, 3),
         Task::new(6, 2, 6),
     ];
-    assert_eq!(first_late_slot(&released_periodically(2, &table, 60)), None);
+    for order in orders(&table) {
+        let late = first_late_slot(&released_periodically(2, &order, 60));
+        assert_eq!(late, None, "{order:?}");
+    }
+}
+
+// Every order of the tasks.
+fn orders(tasks: &[Task]) -> Vec<Vec<Task>> {
+    if tasks.is_empty() {
+        return vec![Vec::new()];
+    }
+    let mut found = Vec::new();
+    for first in 0..tasks.len() {
+        let mut rest = tasks.to_vec();
+        let first = rest.remove(first);
+        let after = orders(&rest).into_iter();
+        found.extend(after.map(|order| [vec![first], order].concat()));
+    }
+    found
 }
 
 // The first slot, from 1, that reports a late job, by both machines.

@@ -31,7 +31,7 @@ pub claims-hold : allTrue claims ≡ true
 unfolding computing answers pressed pressedCalls saysRan saysFinished slotCount upToSlot ranWhole acceptedFinish isFinishOf anyFinish closedBySlot tableAfter joinedBy slotOf idle ran ranLast accepted refused closedIn claims allTrue
 claims-hold = refl
 
--- the log of case k, in whose last slot task 2 is late
+-- the log of case k, in whose last slot both tasks are late; the claim fails of task 2
 pub late-refuted : InTime (tableOf whole) (session whole 1 5) → ⊥
 unfolding computing whole
 late-refuted claim =

@@ -19,7 +19,7 @@ use Rattle.machine.specs.Pick.{waiting, precedes, candidates, pick}
 use Rattle.machine.specs.Ranks.{rankAt, ranks}
 use Rattle.machine.specs.Sound.{sound}
 use Rattle.machine.specs.declared.machine.Machine.{Machine}
-use Rattle.machine.proofs.SoundLaws.{sound-passes, sound-left}
+use Rattle.machine.proofs.SoundLaws.{sound-passes, sound-small}
 use Rattle.machine.proofs.Waiting.{waits-open}
 
 pub length-ranks : (m : Machine) (picked : List Bool) → length (ranks m picked) ≡ maxTasks
@@ -75,7 +75,7 @@ module _ (l : List ℕ) (m : Machine) (picked : List Bool) (ok : sound m ≡ tru
   same-waits i h =
       rw (rank-at i h)
       (by-test (waiting m picked i)
-      (λ w. let o = waits-open m picked i w in rw w (open-rank (jobAt m i) o (sound-left m ok i h o)))
+      (λ w. let o = waits-open m picked i w in rw w (open-rank (jobAt m i) o (sound-small m ok i h o)))
       (λ idle. rw idle never-waits))
 
   same-order :
@@ -86,7 +86,7 @@ module _ (l : List ℕ) (m : Machine) (picked : List Bool) (ok : sound m ≡ tru
       let oi = waits-open m picked i wi in
       let oj = waits-open m picked j wj in
       rw (rank-at i hi, rank-at j hj, wi, wj)
-      (rank-precedes (jobAt m i) i (jobAt m j) j oi oj (sound-left m ok i hi oi) (sound-left m ok j hj oj))
+      (rank-precedes (jobAt m i) i (jobAt m j) j (sound-small m ok i hi oi) (sound-small m ok j hj oj) oi oj)
 
   pub ranked-runner : nextRunner (ranked l) ≡ nextRunner (candidates m picked)
   unfolding ranked candidates

@@ -1,6 +1,6 @@
 -- What a sound machine is. Others cite: `one-unsound`, and `make-sound`, from its table, cores and jobs; `sound-checks` and `sound-passes`, that its
 -- table and cores pass `checked`; `sound-fits`, that its tasks are well formed; `sound-job`, that each job is sound; `sound-closed`, that a closed
--- task has no job; and `sound-left`, that the left of an open one has 32 bits.
+-- task has no job; and `sound-small`, that the left and budget of an open one are below 2^20.
 use Prim.Native.Nat.{ℕ, zero, suc, _<_}
 use mathlib.Core.Path.{_≡_, refl}
 use mathlib.Core.Bool.{true, false}
@@ -18,7 +18,7 @@ use Rattle.tasks.proofs.Range.{range-of}
 use Rattle.tasks.proofs.OutcomeLaws.{is-done}
 use Rattle.tasks.proofs.TaskSetLaws.{well-checked}
 use Rattle.job.specs.Sound.{jobSound}
-use Rattle.job.specs.Rank.{later}
+use Rattle.job.proofs.RankLaws.{Small}
 use Rattle.job.proofs.SoundLaws.{closed-numbers, open-numbers}
 use Rattle.machine.specs.Machine.{taskAt, jobAt}
 use Rattle.machine.specs.Sound.{jobsSound, sound}
@@ -72,7 +72,9 @@ module _ (m : Machine) (ok : sound m ≡ true) where
       let none = closed-numbers (taskAt m i) (jobAt m i) (sound-job i h) c in
       record { closed = c; left-none = none .left-none; budget-none = none .budget-none }
 
-  pub sound-left : (i : ℕ) → i < m .table .count → jobAt m i .«open» ≡ true → jobAt m i .left < later
+  pub sound-small : (i : ℕ) → i < m .table .count → jobAt m i .«open» ≡ true → Small (jobAt m i)
   unfolding taskAt
-  sound-left i h o =
-      omega (arith, open-numbers (taskAt m i) (jobAt m i) (sound-job i h) o, range-of (taskAt m i) (sound-passes .tasks-fit i h))
+  sound-small i h o =
+      let numbers = open-numbers (taskAt m i) (jobAt m i) (sound-job i h) o in
+      let range = range-of (taskAt m i) (sound-passes .tasks-fit i h) in
+      record { left-small = omega (arith, numbers, range); budget-small = omega (arith, numbers, range) }

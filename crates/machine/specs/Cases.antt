@@ -1,4 +1,5 @@
--- "Cases at the edges" of document 01, as entries of a single checked list. `allHold` is the test; the theorem stands in proofs/CasesHold.antt.
+-- "Cases at the edges" of document 01, as entries of a single checked list, j and k "worked out afresh" for document 02, change 2. `allHold` is the
+-- test; the theorem stands in proofs/CasesHold.antt.
 use Prim.Native.Nat.{ℕ, zero, suc}
 use mathlib.Core.Bool.{Bool, true, false, cond, _&&_, Bool·beq}
 use mathlib.Core.List.{List, [], _∷_, _++_}
@@ -83,7 +84,7 @@ line ran finished late = record { ran = ran; finished = finished; late = late }
 unfoldable pub example : List Task
 example = task 4 1 4 ∷ task 6 2 5 ∷ task 10 6 8 ∷ []
 
--- the cases a to k, in their order
+-- the cases a to k, in their order; in k task 2 owes more in slots 2 and 4, in the others both owe the same, and at the end both are late
 unfoldable pub cases : List Case
 cases =
     interferenceIs 4 1 8 2 ∷
@@ -98,7 +99,7 @@ cases =
     sessionIs (task 6 2 3 ∷ task 6 2 3 ∷ task 6 5 6 ∷ []) 2
     (line 3 0 0 ∷ line 5 1 0 ∷ line 6 2 0 ∷ line 4 0 0 ∷ line 4 0 0 ∷ line 4 4 0 ∷ []) ∷
     sessionIs (task 5 5 5 ∷ task 5 5 5 ∷ []) 1
-    (line 1 0 0 ∷ line 1 0 0 ∷ line 1 0 0 ∷ line 1 0 0 ∷ line 1 1 2 ∷ []) ∷
+    (line 1 0 0 ∷ line 2 0 0 ∷ line 1 0 0 ∷ line 2 0 0 ∷ line 1 0 3 ∷ []) ∷
     []
 
 -- every case of a list holds: "Proved together as entries of a single checked list"

@@ -1,7 +1,7 @@
 -- Examples beside the cases of document 01, as entries of lists of computed tests; above 150 lines because it is these lists alone, with the words
 -- that they are written in. `examples` has runs of the machine: 32 tasks on 16 cores, joins, a task that turns urgent, refused calls, slots with
--- other cores than the machine's (document 02, change 1). `claims` has logs made by hand, and what the claim of demand 3 says of them. `allTrue` is
--- the test; the theorems stand in proofs/ExamplesHold.antt.
+-- other cores than the machine's (document 02, change 1), jobs of equal deadlines (change 2). `claims` has logs made by hand, and what the claim of
+-- demand 3 says of them. `allTrue` is the test; the theorems stand in proofs/ExamplesHold.antt.
 use Prim.Native.Nat.{ℕ, _+_}
 use mathlib.Core.Bool.{Bool, true, false, cond, not, _&&_}
 use mathlib.Core.List.{List, [], _∷_, _++_}
@@ -114,13 +114,13 @@ examples =
     -- 32 tasks on 16 cores: COUNT 12, admitted; on 11 cores the same COUNT, refused
     holds (verdictIs many 16 12 true) ∷
     holds (verdictIs many 11 12 false) ∷
-    -- all 32 released: tasks 21 to 32 and 1 to 4 run first, then tasks 5 to 8, then 9 to 20
+    -- all 32 released: tasks 21 to 32 run first, beside them in turn 1 to 4, 5 to 8 and 9 to 12; then 13 to 20, which owe most, with 1 to 8
     holds
     (sessionIs many 16
     (line 4_293_918_735 0 0 ∷
-    line 4_293_918_735 15 0 ∷
-    line 4_293_918_960 4_293_918_720 0 ∷
-    line 1_048_560 240 0 ∷
+    line 4_293_918_960 0 0 ∷
+    line 4_293_922_560 4_293_918_720 0 ∷
+    line 1_044_735 255 0 ∷
     line 1_048_320 1_048_320 0 ∷
     line 0 0 0 ∷
     [])) ∷
@@ -173,9 +173,16 @@ examples =
     sameNumbers (runnerCounts (answers example 2 (releases 3 ++ Slot 4 ∷ []))) (3 ∷ []) ∷
     -- one open task on 16 cores
     sameNumbers (runnerCounts (answers example 2 (Release 2 ∷ replicate 3 (Slot 16)))) (1 ∷ 1 ∷ 0 ∷ []) ∷
-    -- each slot has its own number: two of three open tasks run, then one, then the other two
+    -- each slot has its own number: two of three open tasks run, then one, which owes more by then, then all three
     runIs (replicate 3 (task 9 2 9)) 1 (releases 3 ++ Slot 2 ∷ Slot 1 ∷ Slot 4 ∷ []) []
-    (line 3 0 0 ∷ line 1 1 0 ∷ line 6 2 0 ∷ []) ∷
+    (line 3 0 0 ∷ line 4 0 0 ∷ line 7 7 0 ∷ []) ∷
+    -- of equal deadlines the longer job first, by what it owes now: task 2 until both owe 1, then task 1
+    holds (sessionIs (task 9 1 4 ∷ task 9 3 4 ∷ []) 1 (line 2 0 0 ∷ line 2 0 0 ∷ line 1 1 0 ∷ line 2 2 0 ∷ [])) ∷
+    -- left goes before budget: task 1 owes less and is due first
+    holds (sessionIs (task 9 1 3 ∷ task 9 3 6 ∷ []) 1 (line 1 1 0 ∷ line 2 0 0 ∷ line 2 0 0 ∷ line 2 2 0 ∷ [])) ∷
+    -- both urgent with left 2: task 2 waited for task 3, owes 3 and goes before task 1, which owes 2
+    runIs (task 9 2 2 ∷ task 9 3 3 ∷ task 9 1 1 ∷ []) 1 (Release 2 ∷ Release 3 ∷ Slot 1 ∷ Release 1 ∷ Slot 1 ∷ Slot 1 ∷ []) []
+    (line 4 4 0 ∷ line 2 0 0 ∷ line 1 0 3 ∷ []) ∷
     []
 
 -- a slot of a log made by hand, by what it says of task 1: whether it ran, and whether it finished; of the others it says nothing

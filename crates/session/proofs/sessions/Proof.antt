@@ -8,7 +8,7 @@ use lib.ListN.{length}
 use Rattle.text.specs.Output.{Put, Holds}
 use Rattle.text.proofs.Putting.{put-then, put-all}
 use Rattle.session.specs.Printed.{caseJ, caseK, slotLinesFrom, printed}
-use Rattle.session.proofs.DocumentHolds.{printed-few}
+use Rattle.session.proofs.CaseLinesHold.{printed-few}
 use Rattle.session.proofs.sessions.Statement.{statement}
 use Rattle.session.proofs.sessions.Tie as tie
 

@@ -1,4 +1,4 @@
--- What is printed is what document 01 says: antt computes it. Others cite `document-holds` and `printed-few`.
+-- What is printed are the lines of cases j and k: antt computes it. Others cite `case-lines-hold` and `printed-few`.
 use Prim.Native.Nat.{_≤_}
 use native.Mathlib.Omega.{arith}
 use mathlib.Core.Path.{_≡_, refl}
@@ -7,13 +7,13 @@ use Rattle.text.specs.Number.{digitsOf, decimalText}
 use Rattle.text.specs.Output.{furtherNumbers, numbersLine}
 use Rattle.machine.proofs.Computing.{computing}
 use Rattle.session.specs.Printed.{slotLine, slotLinesFrom, caseJ, caseK, printed}
-use Rattle.session.specs.Document.{documentLines}
+use Rattle.session.specs.CaseLines.{caseLines}
 
-pub document-holds : printed ≡ documentLines
-unfolding computing digitsOf decimalText furtherNumbers numbersLine slotLine slotLinesFrom caseJ caseK printed documentLines
-document-holds = refl
+pub case-lines-hold : printed ≡ caseLines
+unfolding computing digitsOf decimalText furtherNumbers numbersLine slotLine slotLinesFrom caseJ caseK printed caseLines
+case-lines-hold = refl
 
 -- eleven lines of eight bytes
 pub printed-few : length printed ≤ 88
-unfolding documentLines
-printed-few = rw document-holds (omega arith)
+unfolding caseLines
+printed-few = rw case-lines-hold (omega arith)
