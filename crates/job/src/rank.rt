@@ -3,7 +3,7 @@ use crate::job::Job;
 ghost use mathlib.Core.Path.{_≡_};
 ghost use Rattle.job.specs.Rank.{alikeRank, rank, rankPrecedes};
 
-// What a slot of left counts in a rank: more than the budgets of a sound machine differ, so that left goes before budget.
+// What a slot of left counts in a rank: more than any two budgets of a sound machine differ by, so that left goes before budget.
 const SLOT_WEIGHT: u64 = 1_048_576;
 
 // What a budget is taken from, so that the larger one gives the smaller rank: more than any budget.

@@ -114,7 +114,8 @@ examples =
     -- 32 tasks on 16 cores: COUNT 12, admitted; on 11 cores the same COUNT, refused
     holds (verdictIs many 16 12 true) ∷
     holds (verdictIs many 11 12 false) ∷
-    -- all 32 released: tasks 21 to 32 run first, beside them in turn 1 to 4, 5 to 8 and 9 to 12; then 13 to 20, which owe most, with 1 to 8
+    -- all 32 released: tasks 21 to 32 run first, beside them in turn 1 to 4, 5 to 8 and 9 to 12; then 13 to 20, which owe most, with 1 to 8; then
+    -- 9 to 20, which owe 1 each
     holds
     (sessionIs many 16
     (line 4_293_918_735 0 0 ∷
