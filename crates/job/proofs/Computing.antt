@@ -2,12 +2,12 @@
 use mathlib.Core.Bool.{Bool, true}
 use Rattle.job.specs.Job.{freshJob, releasedJob, closedJob, isUrgent}
 use Rattle.job.specs.Slot.{charged, aged, isFinished, isLate, settled}
-use Rattle.job.specs.Sound.{openSound, closedSound, jobSound}
+use Rattle.job.specs.Sound.{openSound, closedSound, gapCoversLeft, jobSound}
 use Rattle.job.specs.Precedence.{longerFirst, leftFirst, byUrgency, jobPrecedes}
 use Rattle.job.specs.Search.{unpreceded, isNext, firstNext, nextRunner}
 
 unfoldable pub computingJobs : Bool
 unfolding
-    freshJob releasedJob closedJob isUrgent charged aged isFinished isLate settled openSound closedSound jobSound
+    freshJob releasedJob closedJob isUrgent charged aged isFinished isLate settled openSound closedSound gapCoversLeft jobSound
     longerFirst leftFirst byUrgency jobPrecedes unpreceded isNext firstNext nextRunner
 computingJobs = true

@@ -1,5 +1,5 @@
--- What a sound job is: `gap-within`; `closed-numbers`, of a closed one; `open-numbers`, of an open one. The other way round: `closed-sound` and
--- `open-sound`. Jobs that are sound: a fresh one (`fresh-sound`), one that was released (`released-sound`), closed (`ended-sound`) or has passed a slot
+-- What a sound job is: `gap-within`; `closed-numbers`, of a closed one; `open-numbers`, of an open one; `free-closed`, that one without a gap is
+-- closed; `was-sound`, that it was sound before change 3 too. The other way round: `closed-sound` and `open-sound`. Jobs that are sound: a fresh one (`fresh-sound`), one that was released (`released-sound`), closed (`ended-sound`) or has passed a slot
 -- (`slot-sound`).
 use Prim.Native.Nat.{_-_, _≤_}
 use native.Mathlib.Omega.{arith}
@@ -14,7 +14,8 @@ use Rattle.tasks.specs.Task.{inRange}
 use Rattle.tasks.proofs.Range.{range-of}
 use Rattle.job.specs.Job.{freshJob, releasedJob, closedJob}
 use Rattle.job.specs.Slot.{charged, aged, settled}
-use Rattle.job.specs.Sound.{openSound, closedSound, jobSound}
+use Rattle.job.specs.Sound.{openSound, closedSound, gapCoversLeft, jobSound}
+use Rattle.job.specs.FormerSound.{formerJobSound}
 use Rattle.job.specs.declared.job.Job.{Job}
 use Rattle.job.proofs.SlotLaws.{settled-closed, settled-finished, settled-late, settled-open}
 
@@ -23,12 +24,13 @@ pub record NoNumbers (j : Job) : Type 0 where
   pub left-none : j .left ≡ 0
   pub budget-none : j .budget ≡ 0
 
--- an open job's left and budget
+-- an open job's left, budget and gap
 pub record OpenNumbers (t : Task) (j : Job) : Type 0 where
   pub left-some : 1 ≤ j .left
   pub left-fits : j .left ≤ t .deadline
   pub budget-some : 1 ≤ j .budget
   pub budget-fits : j .budget ≤ t .budget
+  pub gap-covers : j .left ≤ j .gap
 
 module _ (t : Task) (j : Job) (ok : jobSound t j ≡ true) where
   pub gap-within : j .gap ≤ t .period
@@ -45,9 +47,10 @@ module _ (t : Task) (j : Job) (ok : jobSound t j ≡ true) where
       }
 
   pub open-numbers : j .«open» ≡ true → OpenNumbers t j
-  unfolding jobSound openSound
+  unfolding jobSound openSound gapCoversLeft
   open-numbers o =
-      let rule = rw o at (and-right (leb (j .gap) (t .period)) _ ok) in
+      let rules = rw o at (and-right (leb (j .gap) (t .period)) _ ok) in
+      let rule = and-right (gapCoversLeft j) _ rules in
       let two = leb 1 (j .left) && leb (j .left) (t .deadline) in
       let three = two && leb 1 (j .budget) in
       let h3 = and-left three _ rule in
@@ -57,7 +60,19 @@ module _ (t : Task) (j : Job) (ok : jobSound t j ≡ true) where
         left-fits = leb-true _ _ (and-right (leb 1 (j .left)) _ h2);
         budget-some = leb-true _ _ (and-right two _ h3);
         budget-fits = leb-true _ _ (and-right three _ rule);
+        gap-covers = leb-true _ _ (and-left (gapCoversLeft j) _ rules);
       }
+
+  -- an open job has a slot left, and its gap is no smaller
+  pub free-closed : j .gap ≡ 0 → j .«open» ≡ false
+  free-closed none = by-test (j .«open») (λ o. absurd (omega (arith, open-numbers o))) (λ c. c)
+
+  pub was-sound : formerJobSound t j ≡ true
+  unfolding formerJobSound jobSound gapCoversLeft
+  was-sound =
+      by-test (j .«open»)
+      (λ o. rw (o, le-leb _ _ gap-within) (and-right (gapCoversLeft j) _ (rw o at (and-right (leb (j .gap) (t .period)) _ ok))))
+      (λ c. rw c (rw c at ok))
 
 module _ (t : Task) (j : Job) (gap : j .gap ≤ t .period) where
   pub closed-sound : j .«open» ≡ false → NoNumbers j → jobSound t j ≡ true
@@ -65,7 +80,7 @@ module _ (t : Task) (j : Job) (gap : j .gap ≤ t .period) where
   closed-sound c none = rw (le-leb _ _ gap, c, eq-eqb _ _ (none .left-none), eq-eqb _ _ (none .budget-none))
 
   pub open-sound : j .«open» ≡ true → OpenNumbers t j → jobSound t j ≡ true
-  unfolding jobSound openSound
+  unfolding jobSound openSound gapCoversLeft
   open-sound o n =
       rw (
         le-leb _ _ gap,
@@ -74,6 +89,7 @@ module _ (t : Task) (j : Job) (gap : j .gap ≤ t .period) where
         le-leb _ _ (n .left-fits),
         le-leb _ _ (n .budget-some),
         le-leb _ _ (n .budget-fits),
+        le-leb _ _ (n .gap-covers),
       )
 
 pub fresh-sound : (t : Task) → jobSound t freshJob ≡ true
@@ -85,7 +101,13 @@ unfolding releasedJob
 released-sound t in-range =
     let r = range-of t in-range in
     open-sound t (releasedJob t) (omega arith) refl
-    (record { left-some = omega (arith, r); left-fits = omega arith; budget-some = r .budget-some; budget-fits = omega arith })
+    (record {
+      left-some = omega (arith, r);
+      left-fits = omega arith;
+      budget-some = r .budget-some;
+      budget-fits = omega arith;
+      gap-covers = omega (arith, r);
+    })
 
 -- a job that closes keeps its gap
 pub ended-sound : (t : Task) (j : Job) → j .gap ≤ t .period → jobSound t (closedJob j) ≡ true
@@ -126,6 +148,7 @@ module _ (t : Task) (j : Job) (ran : Bool) (ok : jobSound t j ≡ true) where
         left-fits = omega (arith, left, n .left-fits);
         budget-some = omega arith;
         budget-fits = omega (arith, n .budget-fits);
+        gap-covers = omega (arith, left, n .gap-covers);
       }))))
 
   pub slot-sound : jobSound t (settled (aged (charged ran j))) ≡ true

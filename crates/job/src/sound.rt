@@ -5,7 +5,7 @@ ghost use mathlib.Core.Path.{_≡_};
 ghost use Rattle.job.specs.Sound.{openSound, closedSound, jobSound};
 
 impl Job {
-    // Whether the record is one that a job of the task can have.
+    // Whether the record is one that a job of the task can have. The gap of an open one reaches to its deadline.
     pub fn is_sound(self, task: Task) -> bool
         ensures { λ r. ⌜ r ≡ jobSound task self ⌝ }
     {
@@ -13,6 +13,9 @@ impl Job {
             return false;
         }
         if self.open {
+            if self.gap < self.left {
+                return false;
+            }
             return self.open_sound(task);
         }
         self.closed_sound()

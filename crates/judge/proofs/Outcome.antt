@@ -1,4 +1,4 @@
--- What a verdict says of the judging. Others cite: `outcome-is` and `refused-outcome`, of a refusal; `JudgedValues` with
+-- What a verdict says of the judging. Others cite: `outcome-is`, `judged-not-0` and `refused-outcome`, of a refusal; `JudgedValues` with
 -- `judged-values`, of COUNT and the admission; `count-small`; and `Admits` with `admits-means`, of a table that is admitted.
 use Prim.Native.Nat.{ℕ, _≤_}
 use native.Mathlib.Omega.{arith}
@@ -6,20 +6,16 @@ use mathlib.Core.Path.{_≡_, refl, sym, _∙_}
 use mathlib.Core.Bool.{Bool, true, false}
 use Rattle.laws.proofs.CaseSplits.{not-both}
 use Rattle.tasks.specs.declared.table.Table.{Table}
-use Rattle.tasks.specs.declared.outcome.Outcome.{Outcome}
 use Rattle.tasks.specs.declared.outcome.Outcome.the-variants as Out
 use Rattle.tasks.specs.Limits.{maxTasks}
 use Rattle.tasks.specs.Check.{checked}
-use Rattle.tasks.proofs.Checked.{passes}
+use Rattle.tasks.proofs.Checked.{passes, checked-not-0}
+use Rattle.tasks.proofs.OutcomeLaws.{by-outcome, Not0}
 use Rattle.edzl.specs.Window.{noSlack, mayTurnUrgent, countUrgent, admitted}
 use Rattle.edzl.proofs.SumLaws.{count-bound}
 use Rattle.tasks.specs.TaskSet.{firstTasks, tasksOf}
 use Rattle.judge.specs.declared.Verdict.the-variants.{Judged, Refused}
 use Rattle.judge.specs.Judge.{refusedValues, valuesOf, judgedAfter, judged}
-
-by-outcome : {A : Type 0} (o : Outcome) → (o ≡ Out.Done → A) → ((number place : ℕ) → o ≡ Out.Refused number place → A) → A
-by-outcome Out.Done f g = f refl
-by-outcome (Out.Refused number place) f g = g number place refl
 
 -- a table that was judged has its COUNT and its verdict
 pub record JudgedValues (t : Table) (m count : ℕ) (admits : Bool) : Type 0 where
@@ -37,6 +33,9 @@ module _ (t : Table) (m : ℕ) where
   pub outcome-is : judged t m .outcome ≡ checked t m
   unfolding judged judgedAfter refusedValues
   outcome-is = by-outcome (checked t m) (λ e. rw e) (λ number place e. rw e)
+
+  pub judged-not-0 : Not0 (judged t m .outcome)
+  judged-not-0 = rw outcome-is (checked-not-0 t m)
 
   -- a refused verdict has the refusal's number and place
   refused-values : (number place : ℕ) → valuesOf (Refused number place) ≡ judged t m → judged t m .outcome ≡ Out.Refused number place

@@ -1,20 +1,23 @@
--- A call by what it came to: refused, with the machine as it was, or carried out, with what was found true first. Others cite `by-call`
--- and the records of what an accepted call found.
-use Prim.Native.Nat.{ℕ, _-_}
+-- A call by what it came to: refused, with the machine as it was, by number 0 only if that is unsound, or carried out, with what was found true first.
+-- Others cite `by-call` and the records of what an accepted call found.
+use Prim.Native.Nat.{ℕ, _-_, _<_}
 use mathlib.Core.Path.{_≡_}
 use mathlib.Core.Bool.{Bool, true, false, cond, not}
 use mathlib.Core.List.{List}
 use lib.Dec.{leb, ltb}
 use native.Mathlib.Omega.{arith}
-use borrow.Author.Tests.{not-false, ltb-false}
+use borrow.Author.Tests.{not-true, not-false, ltb-false}
 use Rattle.tasks.specs.declared.task.Task.{Task}
 use Rattle.tasks.specs.declared.outcome.Outcome.{Outcome}
 use Rattle.tasks.specs.declared.outcome.Outcome.the-variants.{Done, Refused}
 use Rattle.tasks.specs.Limits.{maxTasks}
+use Rattle.tasks.specs.Refusals.{unsoundMachine, taskOutOfRange, noSuchTask, releasedTooSoon, jobNotOpen, tableFull, notAdmitted, slotCoresOutOfRange}
 use Rattle.tasks.specs.Task.{inRange}
 use Rattle.tasks.specs.Table.{withTask}
-use Rattle.laws.proofs.CaseSplits.{by-cond}
+use Rattle.laws.proofs.CaseSplits.{not-both, by-cond}
+use Rattle.tasks.proofs.OutcomeLaws.{Not0, number-some}
 use Rattle.judge.specs.Judge.{judged}
+use Rattle.judge.proofs.Outcome.{judged-not-0}
 use Rattle.job.specs.Job.{closedJob, releasedJob}
 use Rattle.machine.specs.Machine.{taskAt, jobAt, withJob}
 use Rattle.machine.specs.Pick.{runners}
@@ -26,6 +29,7 @@ use Rattle.machine.specs.declared.call.Call.{Call}
 use Rattle.machine.specs.declared.call.Call.the-variants.{Release, Finish, Slot, Join}
 use Rattle.machine.specs.declared.answer.Answer.{Answer}
 use Rattle.machine.specs.declared.answer.Report.{Report}
+use Rattle.machine.proofs.SoundLaws.{sound-free}
 use Rattle.machine.proofs.TaskNumbers.{KnownTask, known-task}
 use Rattle.machine.proofs.SlotStep.{LegalSlot}
 use Rattle.machine.proofs.RunnersLegal.{runners-legal, enough-cores}
@@ -65,43 +69,53 @@ pub record JoinTaken (m : Machine) (t : Task) : Type 0 where
 module _
     (m : Machine)
     (P : Call → Answer → Type 0)
-    (on-refusal : (call : Call) (number place : ℕ) → P call (refusal m number place))
+    (on-refusal : (call : Call) (number place : ℕ) → (sound m ≡ true → 0 < number) → P call (refusal m number place))
     (on-release : (number : ℕ) → ReleaseTaken m number → P (Release number) (accepted (afterRelease m number) noReport))
     (on-finish : (number : ℕ) → FinishTaken m number → P (Finish number) (accepted (afterFinish m number) noReport))
     (on-slot : (k : ℕ) (ran : List Bool) → LegalSlot m ran → P (Slot k) (slotAnswer m ran))
     (on-join : (t : Task) → JoinTaken m t → P (Join t) (accepted (withJoined m t) noReport))
   where
+    -- past the test that refuses an unsound machine by 0
+    past-0 : (call : Call) {answer : Answer} → (sound m ≡ true → P call answer) → P call (cond (not (sound m)) (refusal m unsoundMachine 0) answer)
+    past-0 call on =
+        by-cond (P call) (not (sound m)) (λ e. on-refusal call unsoundMachine 0 (λ ok. not-both _ ok (not-true _ e))) (λ e. on (not-false _ e))
+
     -- past a test that refuses the call by this number
-    past : (call : Call) (t : Bool) (number : ℕ) {answer : Answer} → (t ≡ false → P call answer) → P call (cond t (refusal m number 0) answer)
-    past call t number on = by-cond (P call) t (λ e. on-refusal call number 0) on
+    past :
+        (call : Call) (t : Bool) (number : ℕ) {answer : Answer} → 0 < number → (t ≡ false → P call answer)
+        → P call (cond t (refusal m number 0) answer)
+    past call t number some on = by-cond (P call) t (λ e. on-refusal call number 0 (λ ok. some)) on
 
     -- a join, after the verdict on the longer table
     by-verdict :
-        (t : Task) (verdict : Outcome) (admits : Bool) → (admits ≡ true → JoinTaken m t) → P (Join t) (joinAfter verdict admits m t)
+        (t : Task) (verdict : Outcome) (admits : Bool) → Not0 verdict → (admits ≡ true → JoinTaken m t) → P (Join t) (joinAfter verdict admits m t)
     unfolding joinAfter refuse done
-    by-verdict t Done admits taken = by-cond (P (Join t)) admits (λ e. on-join t (taken e)) (λ e. on-refusal _ _ _)
-    by-verdict t (Refused number place) admits taken = on-refusal _ _ _
+    by-verdict t Done admits told taken =
+        by-cond (P (Join t)) admits (λ e. on-join t (taken e)) (λ e. on-refusal _ notAdmitted _ (λ ok. omega arith))
+    by-verdict t (Refused number place) admits told taken = on-refusal _ _ _ (λ ok. number-some number place told)
+
+    -- a task without a gap is closed, as the machine is sound
+    release-taken : (number : ℕ) → KnownTask m number → jobAt m (number - 1) .gap ≡ 0 → ReleaseTaken m number
+    release-taken number task free = record { task = task; was-free = free; was-closed = sound-free m (task .is-sound) (number - 1) (task .inside) free }
 
     pub by-call : (call : Call) → P call (step m call)
     unfolding step release finish slot join refuse done afterRelease afterFinish
     by-call (Release number) =
-        past _ _ _ λ ok.
-        past _ _ _ λ known.
-        past _ (ltb 0 (jobAt m (number - 1) .gap)) _ λ free.
-        past _ _ _ λ closed.
-        on-release number
-        (record { task = known-task m number (not-false _ ok) (not-false _ known); was-free = omega (arith, ltb-false); was-closed = closed })
+        past-0 _ λ ok.
+        past _ _ noSuchTask (omega arith) λ known.
+        past _ (ltb 0 (jobAt m (number - 1) .gap)) releasedTooSoon (omega arith) λ free.
+        on-release number (release-taken number (known-task m number ok (not-false _ known)) (omega (arith, ltb-false)))
     by-call (Finish number) =
-        past _ _ _ λ ok.
-        past _ _ _ λ known.
-        past _ _ _ λ opened.
-        on-finish number (record { task = known-task m number (not-false _ ok) (not-false _ known); was-open = not-false _ opened })
+        past-0 _ λ ok.
+        past _ _ noSuchTask (omega arith) λ known.
+        past _ _ jobNotOpen (omega arith) λ opened.
+        on-finish number (record { task = known-task m number ok (not-false _ known); was-open = not-false _ opened })
     by-call (Slot k) =
-        past _ _ _ λ ok.
-        past _ _ _ λ in-range.
-        on-slot k (runners m k) (runners-legal m k (not-false _ ok) (enough-cores m k (not-false _ in-range)))
+        past-0 _ λ ok.
+        past _ _ slotCoresOutOfRange (omega arith) λ in-range.
+        on-slot k (runners m k) (runners-legal m k ok (enough-cores m k (not-false _ in-range)))
     by-call (Join t) =
-        past _ _ _ λ ok.
-        past _ (not (inRange t)) _ λ in-range.
-        past _ (leb maxTasks (m .table .count)) _ λ room.
-        by-verdict t _ _ λ admits. record { is-sound = not-false _ ok; admits = admits }
+        past-0 _ λ ok.
+        past _ (not (inRange t)) taskOutOfRange (omega arith) λ in-range.
+        past _ (leb maxTasks (m .table .count)) tableFull (omega arith) λ room.
+        by-verdict t _ _ (judged-not-0 (withTask (m .table) t) (m .cores)) λ admits. record { is-sound = ok; admits = admits }

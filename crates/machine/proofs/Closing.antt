@@ -129,7 +129,7 @@ all-close i [] m l b going = λ bound. absurd (omega (arith, left-some going))
 all-close i (call ∷ calls) m l b going =
     let rest = all-close i calls in
     by-call m (ClosesAfter i l b calls)
-    (after-refusal m i l b going calls rest)
+    (λ call number place told. after-refusal m i l b going calls rest call number place)
     (after-release m i l b going calls rest)
     (after-finish m i l b going calls rest)
     (λ k ran legal. after-slot m i l b going k ran legal calls rest)

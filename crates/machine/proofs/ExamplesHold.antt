@@ -17,14 +17,14 @@ use Rattle.machine.specs.Calls.{start}
 use Rattle.machine.specs.Play.{Entry, play}
 use Rattle.machine.specs.InTime.{isFinishOf, acceptedFinish, saysRan, saysFinished, slotCount, upToSlot, ranWhole, anyFinish, tableAfter, joinedBy, closedBySlot, InTime, Promise}
 use Rattle.machine.specs.Cases.{tableOf, releases, session, example}
-use Rattle.machine.specs.Examples.{answers, refusalBefore, refusals, runnerCounts, sameNumbers, runIs, ignoredIs, many, pressed, pressedCalls, ignoredSlot, atPlace0, emptyRefusals, withoutTasks, whole, overtaken, ignored, examples, slotOf, idle, ran, ranLast, accepted, refused, closedIn, claims, allTrue}
+use Rattle.machine.specs.Examples.{answers, refusalBefore, refusals, runnerCounts, sameNumbers, runIs, ignoredIs, many, pressed, pressedCalls, ignoredSlot, atPlace0, emptyRefusals, withoutTasks, madeByHand, allKinds, whole, overtaken, ignored, examples, slotOf, idle, ran, ranLast, accepted, refused, closedIn, claims, allTrue}
 use Rattle.machine.specs.declared.call.Call.{Call}
 use Rattle.machine.specs.declared.call.Call.the-variants.{Release, Slot}
 use Rattle.machine.proofs.Computing.{computing}
 use Rattle.machine.proofs.InTimeHolds.{promise}
 
 pub examples-hold : allTrue examples ≡ true
-unfolding computing answers refusalBefore refusals runnerCounts sameNumbers runIs ignoredIs many pressed pressedCalls ignoredSlot atPlace0 emptyRefusals withoutTasks whole overtaken ignored examples allTrue
+unfolding computing answers refusalBefore refusals runnerCounts sameNumbers runIs ignoredIs many pressed pressedCalls ignoredSlot atPlace0 emptyRefusals withoutTasks madeByHand allKinds whole overtaken ignored examples allTrue
 examples-hold = refl
 
 pub claims-hold : allTrue claims ≡ true

@@ -31,7 +31,7 @@ table-after : (m : Machine) (call : Call) → step m call .machine .table ≡ co
 unfolding isDone joinedBy afterRelease afterFinish withJob withJoined afterSlot
 table-after m =
     by-call m (λ call answer. answer .machine .table ≡ cond (isDone (answer .outcome)) (joinedBy call (m .table)) (m .table))
-    (λ call number place. refl)
+    (λ call number place told. refl)
     (λ number taken. refl)
     (λ number taken. refl)
     (λ k ran legal. refl)
@@ -80,7 +80,7 @@ module _ (m : Machine) (kept : Kept m) where
   unfolding isDone taskAt
   entry-in-time calls =
       by-call m (λ call answer. EntryInTime (m .table) (entryOf call answer) (play (answer .machine) calls))
-      (λ call number place. quiet-in-time _ _ _ refl (λ n e d. clash cc))
+      (λ call number place told. quiet-in-time _ _ _ refl (λ n e d. clash cc))
       (λ n taken.
       record {
         not-late = quiet-report;

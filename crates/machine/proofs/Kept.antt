@@ -118,7 +118,7 @@ module _ (m : Machine) (kept : Kept m) where
   pub kept-call : (call : Call) → Kept (step m call .machine)
   kept-call =
       by-call m (λ call answer. Kept (answer .machine))
-      (λ call number place. kept)
+      (λ call number place told. kept)
       kept-release
       kept-finish
       (λ k. kept-slot)

@@ -9,6 +9,9 @@ pub mod TaskNumbers
 pub mod CallCases
 pub mod JobSteps
 pub mod SoundKept
+pub mod NeverUnsound
+pub mod OpenGap
+pub mod ReleaseAsBefore
 pub mod Kept
 pub mod ClosesLaws
 pub mod Going

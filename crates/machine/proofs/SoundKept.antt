@@ -1,8 +1,8 @@
--- Every machine of every list of calls from a start is sound and has the cores started on (`always-sound`), so that no call of such a list is refused
--- by 0. A slot of such a list is refused exactly where its cores are out of range (`slot-outcome`): no other refusal takes a slot out of the
--- promise. Every call keeps a sound machine sound: `call-keeps`.
+-- A start gives a sound machine or is refused (`start-sound`), and every call keeps a sound machine sound (`call-keeps`). So every machine of every
+-- list of calls from a start is sound and has the cores started on: `always-sound`. A slot of such a list is refused exactly where its cores are out of
+-- range (`slot-outcome`): no other refusal takes a slot out of the promise.
 use Prim.Native.Nat.{ℕ, _+_, _-_, _<_}
-use mathlib.Core.Path.{_≡_, refl, _∙_}
+use mathlib.Core.Path.{_≡_, refl, sym, _∙_}
 use mathlib.Core.Bool.{Bool, true, false, cond, _&&_}
 use mathlib.Core.List.{List, [], _∷_}
 use native.Mathlib.Omega.{arith}
@@ -18,6 +18,7 @@ use Rattle.tasks.specs.Limits.{maxTasks, maxCores}
 use Rattle.tasks.specs.Refusals.{slotCoresOutOfRange}
 use Rattle.tasks.specs.Check.{checked}
 use Rattle.tasks.specs.Table.{zeroTask, withTask}
+use Rattle.tasks.proofs.OutcomeLaws.{by-outcome}
 use Rattle.judge.proofs.Outcome.{admits-means}
 use Rattle.job.specs.declared.job.Job.{Job}
 use Rattle.job.specs.Job.{freshJob}
@@ -105,16 +106,25 @@ module _ (m : Machine) (ok : sound m ≡ true) where
   pub call-keeps : (call : Call) → SoundOn (m .cores) (step m call .machine)
   call-keeps =
       by-call m (λ call answer. SoundOn (m .cores) (answer .machine))
-      (λ call number place. record { is-sound = ok; cores-are = refl })
+      (λ call number place told. record { is-sound = ok; cores-are = refl })
       release-keeps
       finish-keeps
       (λ k ran legal. slot-keeps ran)
       join-keeps
 
-module _ (t : Table) (cores : ℕ) (checks : checked t cores ≡ Done) where
-  fresh-on : SoundOn cores (start t cores .machine)
+-- a start is refused where its table or its cores are
+start-outcome : (t : Table) (cores : ℕ) → start t cores .outcome ≡ checked t cores
+unfolding start startAfter done
+start-outcome t cores = by-outcome (checked t cores) (λ e. rw e) (λ number place e. rw e)
+
+-- the start is not refused
+module _ (t : Table) (cores : ℕ) (starts : start t cores .outcome ≡ Done) where
+  checks : checked t cores ≡ Done
+  checks = sym (start-outcome t cores) ∙ starts
+
+  pub start-sound : SoundOn cores (start t cores .machine)
   unfolding start startAfter done jobAt
-  fresh-on =
+  start-sound =
       rw checks
       (record {
         is-sound = make-sound _ checks (λ i h. rw (replicate-entry maxTasks i freshJob) (fresh-sound _));
@@ -129,7 +139,7 @@ module _ (t : Table) (cores : ℕ) (checks : checked t cores ≡ Done) where
       after-more calls (step m call .machine) (record { is-sound = next .is-sound; cores-are = next .cores-are ∙ on .cores-are })
 
   pub always-sound : (calls : List Call) → SoundOn cores (machineAfter (start t cores .machine) calls)
-  always-sound calls = after-more calls (start t cores .machine) fresh-on
+  always-sound calls = after-more calls (start t cores .machine) start-sound
 
   pub slot-outcome :
       (calls : List Call) (k : ℕ)

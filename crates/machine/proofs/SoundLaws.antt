@@ -1,6 +1,6 @@
 -- What a sound machine is. Others cite: `one-unsound`, and `make-sound`, from its table, cores and jobs; `sound-checks` and `sound-passes`, that its
 -- table and cores pass `checked`; `sound-fits`, that its tasks are well formed; `sound-job`, that each job is sound; `sound-closed`, that a closed
--- task has no job; and `sound-small`, that the left and budget of an open one are below 2^20.
+-- task has no job; `sound-free`, that a task without a gap is closed; and `sound-small`, that the left and budget of an open one are below 2^20.
 use Prim.Native.Nat.{ℕ, zero, suc, _<_}
 use mathlib.Core.Path.{_≡_, refl}
 use mathlib.Core.Bool.{true, false}
@@ -19,7 +19,7 @@ use Rattle.tasks.proofs.OutcomeLaws.{is-done}
 use Rattle.tasks.proofs.TaskSetLaws.{well-checked}
 use Rattle.job.specs.Sound.{jobSound}
 use Rattle.job.proofs.RankLaws.{Small}
-use Rattle.job.proofs.SoundLaws.{closed-numbers, open-numbers}
+use Rattle.job.proofs.SoundLaws.{closed-numbers, open-numbers, free-closed}
 use Rattle.machine.specs.Machine.{taskAt, jobAt}
 use Rattle.machine.specs.Sound.{jobsSound, sound}
 use Rattle.machine.specs.declared.machine.Machine.{Machine}
@@ -71,6 +71,9 @@ module _ (m : Machine) (ok : sound m ≡ true) where
   sound-closed i h c =
       let none = closed-numbers (taskAt m i) (jobAt m i) (sound-job i h) c in
       record { closed = c; left-none = none .left-none; budget-none = none .budget-none }
+
+  pub sound-free : (i : ℕ) → i < m .table .count → jobAt m i .gap ≡ 0 → jobAt m i .«open» ≡ false
+  sound-free i h = free-closed (taskAt m i) (jobAt m i) (sound-job i h)
 
   pub sound-small : (i : ℕ) → i < m .table .count → jobAt m i .«open» ≡ true → Small (jobAt m i)
   unfolding taskAt

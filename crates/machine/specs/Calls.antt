@@ -1,4 +1,5 @@
--- The calls of the machine: document 01, "The slot machine" and "Why a call is not carried out"; a slot by document 02, change 1.
+-- The calls of the machine: document 01, "The slot machine" and "Why a call is not carried out"; a slot by document 02, change 1, a release by
+-- change 3.
 use Prim.Native.Nat.{ℕ, _-_}
 use mathlib.Core.Bool.{Bool, cond, not, _&&_}
 use lib.Dec.{leb, ltb}
@@ -8,7 +9,7 @@ use Rattle.tasks.specs.declared.table.Table.{Table}
 use Rattle.tasks.specs.declared.outcome.Outcome.{Outcome}
 use Rattle.tasks.specs.declared.outcome.Outcome.the-variants.{Done, Refused}
 use Rattle.tasks.specs.Limits.{maxTasks, maxCores}
-use Rattle.tasks.specs.Refusals.{unsoundMachine, taskOutOfRange, noSuchTask, releasedTooSoon, jobStillOpen, jobNotOpen, tableFull, notAdmitted, slotCoresOutOfRange}
+use Rattle.tasks.specs.Refusals.{unsoundMachine, taskOutOfRange, noSuchTask, releasedTooSoon, jobNotOpen, tableFull, notAdmitted, slotCoresOutOfRange}
 use Rattle.tasks.specs.Task.{inRange}
 use Rattle.tasks.specs.Table.{withTask}
 use Rattle.tasks.specs.Check.{checked}
@@ -41,14 +42,13 @@ startAfter (Refused number place) t cores =
 unfoldable pub start : Table → (cores : ℕ) → Answer
 start t cores = startAfter (checked t cores) t cores
 
--- "Release: 8, 9, 10", after 0
+-- "Release: 8, 9, 10", after 0, where change 3 takes "number 10 out of the list"
 unfoldable pub release : Machine → (number : ℕ) → Answer
 release m number =
     let i = number - 1 in
     cond (not (sound m)) (refuse m unsoundMachine)
     (cond (not (inTable m number)) (refuse m noSuchTask)
-    (cond (ltb 0 (jobAt m i .gap)) (refuse m releasedTooSoon)
-    (cond (jobAt m i .«open») (refuse m jobStillOpen) (done (withJob m i (releasedJob (taskAt m i)))))))
+    (cond (ltb 0 (jobAt m i .gap)) (refuse m releasedTooSoon) (done (withJob m i (releasedJob (taskAt m i))))))
 
 -- "Finish: 8, 11", after 0
 unfoldable pub finish : Machine → (number : ℕ) → Answer

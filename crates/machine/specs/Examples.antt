@@ -1,12 +1,12 @@
 -- Examples beside the cases of document 01, as entries of lists of computed tests; above 150 lines because it is these lists alone, with the words
 -- that they are written in. `examples` has runs of the machine: 32 tasks on 16 cores, joins, a task that turns urgent, refused calls, slots with
--- other cores than the machine's (document 02, change 1), jobs of equal deadlines (change 2). `claims` has logs made by hand, and what the claim of
--- demand 3 says of them. `allTrue` is the test; the theorems stand in proofs/ExamplesHold.antt.
+-- other cores than the machine's (document 02, change 1), jobs of equal deadlines (change 2), and machines made by hand (change 3). `claims` has logs
+-- made by hand, and what the claim of demand 3 says of them. `allTrue` is the test; the theorems stand in proofs/ExamplesHold.antt.
 use Prim.Native.Nat.{ℕ, _+_}
 use mathlib.Core.Bool.{Bool, true, false, cond, not, _&&_}
 use mathlib.Core.List.{List, [], _∷_, _++_}
 use lib.Dec.{eqb}
-use lib.ListN.{replicate, take, drop}
+use lib.ListN.{set, replicate, take, drop}
 use Rattle.edzl.specs.Sums.{bit}
 use Rattle.tasks.specs.declared.task.Task.{Task}
 use Rattle.tasks.specs.declared.outcome.Outcome.{Outcome}
@@ -18,6 +18,7 @@ use Rattle.job.specs.Job.{freshJob}
 use Rattle.machine.specs.declared.machine.Machine.{Machine}
 use Rattle.machine.specs.Mask.{mask}
 use Rattle.machine.specs.Slot.{noReport}
+use Rattle.machine.specs.Sound.{sound}
 use Rattle.machine.specs.Calls.{start}
 use Rattle.machine.specs.Play.{Entry, play}
 use Rattle.machine.specs.InTime.{acceptedSlot, slotCount, closedBySlot, tableAfter}
@@ -93,6 +94,20 @@ emptyRefusals (e ∷ log) =
 -- a machine made by hand that is unsound: it has 2 cores and no task
 unfoldable pub withoutTasks : Machine
 withoutTasks = record { table = emptyTable; cores = 2; jobs = replicate maxTasks freshJob }
+
+-- a machine made by hand: a task 6, 3, 5 on 1 core, with this record
+unfoldable pub madeByHand : (isOpen : Bool) → (left budget gap : ℕ) → Machine
+madeByHand isOpen left budget gap =
+    record {
+      table = tableOf (task 6 3 5 ∷ []);
+      cores = 1;
+      jobs = set (replicate maxTasks freshJob) 0 (record { «open» = isOpen; left = left; budget = budget; gap = gap });
+    }
+
+-- calls of every kind, and each with a fault of its own
+unfoldable pub allKinds : List Call
+allKinds =
+    Release 1 ∷ Release 2 ∷ Finish 1 ∷ Finish 2 ∷ Slot 1 ∷ Slot 0 ∷ Join (task 9 1 9) ∷ Join (task 5 6 5) ∷ []
 
 -- a table that a third task like the two fills beyond its cores
 unfoldable pub whole : List Task
@@ -184,6 +199,23 @@ examples =
     -- both urgent with left 2: task 2 waited for task 3, owes 3 and goes before task 1, which owes 2
     runIs (task 9 2 2 ∷ task 9 3 3 ∷ task 9 1 1 ∷ []) 1 (Release 2 ∷ Release 3 ∷ Slot 1 ∷ Release 1 ∷ Slot 1 ∷ Slot 1 ∷ []) []
     (line 4 4 0 ∷ line 2 0 0 ∷ line 1 0 3 ∷ []) ∷
+    -- an open job's gap is at least its left (document 02, change 3): equal is enough, and neither the budget, D nor left + (T − D) bounds it
+    not (sound (madeByHand true 4 2 3)) ∷
+    sound (madeByHand true 4 2 4) ∷
+    sound (madeByHand true 2 1 2) ∷
+    sound (madeByHand true 2 1 4) ∷
+    sound (madeByHand true 5 3 6) ∷
+    not (sound (madeByHand true 1 1 0)) ∷
+    sound (madeByHand true 1 1 1) ∷
+    -- a closed task's gap is bounded by T alone
+    sound (madeByHand false 0 0 0) ∷
+    sound (madeByHand false 0 0 6) ∷
+    not (sound (madeByHand false 0 0 7)) ∷
+    -- a gap below left is told by 0 before all else, and by every call
+    sameNumbers (refusals (play (madeByHand true 4 2 3) allKinds)) (replicate 8 0) ∷
+    -- a release: first 8, then 9, also of an open job, and no 10; after its gap of four slots it is accepted
+    sameNumbers (refusals (play (madeByHand true 4 2 4) (Release 2 ∷ Release 1 ∷ replicate 3 (Slot 1) ++ Release 1 ∷ Slot 1 ∷ Release 1 ∷ [])))
+    (8 ∷ 9 ∷ 9 ∷ []) ∷
     []
 
 -- a slot of a log made by hand, by what it says of task 1: whether it ran, and whether it finished; of the others it says nothing

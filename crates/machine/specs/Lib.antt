@@ -4,6 +4,7 @@ pub mod Slot
 pub mod Ranks
 pub mod Sound
 pub mod Calls
+pub mod FormerRelease
 pub mod Play
 pub mod InTime
 pub mod Mask

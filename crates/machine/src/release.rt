@@ -2,7 +2,6 @@
 use crate::answer::Answer;
 use crate::machine::Machine;
 use job::job::Job;
-use tasks::refusals::JOB_STILL_OPEN;
 use tasks::refusals::NO_SUCH_TASK;
 use tasks::refusals::RELEASED_TOO_SOON;
 use tasks::refusals::UNSOUND_MACHINE;
@@ -10,7 +9,7 @@ ghost use mathlib.Core.Path.{_≡_};
 ghost use Rattle.machine.specs.Calls.{release};
 
 impl Machine {
-    // The release of a task's job.
+    // The release of a task's job. A task without a gap is closed: an open one's gap is above 0 where the machine is sound.
     pub fn release(self, number: u32) -> Answer
         ensures { λ r. ⌜ r ≡ release self number ⌝ }
     {
@@ -24,9 +23,6 @@ impl Machine {
         let job = self.jobs[i];
         if 0 < job.gap {
             return Answer::refused(self, RELEASED_TOO_SOON);
-        }
-        if job.open {
-            return Answer::refused(self, JOB_STILL_OPEN);
         }
         let table = self.table;
         let task = table.tasks[i];

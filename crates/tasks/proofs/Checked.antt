@@ -1,22 +1,25 @@
--- What it takes for a table and a number of cores to pass `checked`: `passes`, and the fields of `Passes`.
+-- What it takes for a table and a number of cores to pass `checked`: `passes`, and the fields of `Passes`. Of those that do not, none is refused by
+-- number 0: `checked-not-0`.
 use Prim.Native.Nat.{ℕ, zero, suc, _+_, _≤_, _<_}
 use native.Mathlib.Omega.{arith}
 use mathlib.Core.Path.{_≡_}
-use mathlib.Core.Bool.{true}
+use mathlib.Core.Bool.{Bool, true, cond, not}
 use mathlib.Core.List.{List}
-use lib.Dec.{leb}
+use lib.Dec.{eqb, leb, ltb}
 use lib.ListN.{getD}
 use borrow.Author.Tests.{not-false, leb-true, ltb-false, eqb-true, eqb-false}
 use Rattle.laws.proofs.CaseSplits.{by-order, by-cond}
 use Rattle.laws.proofs.Booleans.{and-left, and-right}
 use Rattle.tasks.specs.Limits.{maxTasks, maxCores}
+use Rattle.tasks.specs.Refusals.{tooManyTasks, noTask, taskOutOfRange, coresOutOfRange}
 use Rattle.tasks.specs.Task.{inRange}
 use Rattle.tasks.specs.Table.{zeroTask}
 use Rattle.tasks.specs.Check.{firstOutOfRange, coresInRange, checked}
 use Rattle.tasks.specs.declared.task.Task.{Task}
 use Rattle.tasks.specs.declared.table.Table.{Table}
-use Rattle.tasks.specs.declared.outcome.Outcome.the-variants.{Done}
-use Rattle.tasks.proofs.OutcomeLaws.{past-test}
+use Rattle.tasks.specs.declared.outcome.Outcome.{Outcome}
+use Rattle.tasks.specs.declared.outcome.Outcome.the-variants.{Done, Refused}
+use Rattle.tasks.proofs.OutcomeLaws.{past-test, Not0, done-not-0, refused-not-0}
 
 pub record Passes (t : Table) (m : ℕ) : Type 0 where
   pub count-some : 1 ≤ t .count
@@ -53,3 +56,15 @@ passes t m =
       cores-some = leb-true _ _ (and-left _ _ fit);
       cores-fit = leb-true _ _ (and-right (leb 1 m) _ fit);
     }
+
+-- past a test that refuses by another number
+other-test : (test : Bool) (number place : ℕ) {o : Outcome} → 0 < number → Not0 o → Not0 (cond test (Refused number place) o)
+other-test test number place some rest = by-cond Not0 test (λ yes. refused-not-0 number place some) (λ no. rest)
+
+pub checked-not-0 : (t : Table) (m : ℕ) → Not0 (checked t m)
+unfolding checked
+checked-not-0 t m =
+    let place = firstOutOfRange (t .tasks) 0 (t .count) in
+    other-test (ltb maxTasks (t .count)) tooManyTasks (maxTasks + 1) (omega arith)
+    (other-test (eqb (t .count) 0) noTask 0 (omega arith)
+    (other-test (not (eqb place 0)) taskOutOfRange place (omega arith) (other-test (not (coresInRange m)) coresOutOfRange 0 (omega arith) done-not-0)))

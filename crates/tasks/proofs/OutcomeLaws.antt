@@ -1,11 +1,18 @@
--- What an outcome says where the call was carried out: `is-done`, and `past-test`, that no test refused it.
-use Prim.Native.Nat.{ℕ}
+-- What an outcome says where the call was carried out: `is-done`, and `past-test`, that no test refused it. Of one that is not
+-- number 0, `Not0`: `done-not-0`, `refused-not-0` and `number-some`. `by-outcome` goes by the outcome.
+use Prim.Native.Nat.{ℕ, _<_}
+use native.Mathlib.Omega.{arith}
 use mathlib.Core.Path.{_≡_, refl}
 use mathlib.Core.Bool.{Bool, true, false, cond}
-use Rattle.laws.proofs.CaseSplits.{not-both, by-cond, clash}
+use Rattle.laws.proofs.CaseSplits.{by-order, not-both, by-cond, clash}
 use Rattle.tasks.specs.declared.outcome.Outcome.{Outcome}
 use Rattle.tasks.specs.declared.outcome.Outcome.the-variants.{Done, Refused}
 use Rattle.tasks.specs.Outcome.{isDone}
+use Rattle.tasks.specs.Refusals.{unsoundMachine}
+
+pub by-outcome : {A : Type 0} (o : Outcome) → (o ≡ Done → A) → ((number place : ℕ) → o ≡ Refused number place → A) → A
+by-outcome Done f g = f refl
+by-outcome (Refused number place) f g = g number place refl
 
 pub is-done : (o : Outcome) → isDone o ≡ true → o ≡ Done
 unfolding isDone
@@ -15,3 +22,17 @@ is-done (Refused number place) e = not-both false e refl
 pub past-test :
     {A : Type 0} (test : Bool) (number place : ℕ) {o : Outcome} → (test ≡ false → o ≡ Done → A) → cond test (Refused number place) o ≡ Done → A
 past-test {A} test number place on = by-cond (λ o. o ≡ Done → A) test (λ refused e. clash cc) on
+
+-- the outcome is not number 0
+pub record Not0 (o : Outcome) : Type 0 where
+  pub other : (place : ℕ) → o ≡ Refused unsoundMachine place → ⊥
+
+pub done-not-0 : Not0 Done
+done-not-0 = record { other = λ place e. clash cc }
+
+pub refused-not-0 : (number place : ℕ) → 0 < number → Not0 (Refused number place)
+refused-not-0 number place some = record { other = λ at e. let zero : number ≡ 0 = cc in omega arith }
+
+-- the other way round
+pub number-some : (number place : ℕ) → Not0 (Refused number place) → 0 < number
+number-some number place told = by-order number 0 (λ none. let zero : number ≡ 0 = omega arith in absurd (told .other place (rw zero))) (λ some. some)

@@ -1,4 +1,4 @@
--- The numbers of document 01, "Why a call is not carried out", and of document 02's changes.
+-- The numbers of document 01, "Why a call is not carried out", and of document 02's changes; by its change 3 the number 10 "stays empty".
 use Prim.Native.Nat.{ℕ}
 
 -- "0. The machine handed in is unsound"
@@ -40,10 +40,6 @@ noSuchTask = 8
 -- "9. A release comes while the task's gap is above 0."
 abbrev pub releasedTooSoon : ℕ
 releasedTooSoon = 9
-
--- "10. A release comes while the task's job is still open."
-abbrev pub jobStillOpen : ℕ
-jobStillOpen = 10
 
 -- "11. A finish comes for a closed task."
 abbrev pub jobNotOpen : ℕ

@@ -1,4 +1,4 @@
-// The numbers of document 01, "Why a call is not carried out", and of document 02's changes.
+// The numbers of document 01, "Why a call is not carried out", and of document 02's changes; by its change 3 the number 10 "stays empty".
 
 pub const UNSOUND_MACHINE: u32 = 0;
 
@@ -19,8 +19,6 @@ pub const CORES_OUT_OF_RANGE: u32 = 7;
 pub const NO_SUCH_TASK: u32 = 8;
 
 pub const RELEASED_TOO_SOON: u32 = 9;
-
-pub const JOB_STILL_OPEN: u32 = 10;
 
 pub const JOB_NOT_OPEN: u32 = 11;
 

@@ -44,27 +44,19 @@ returns-3 c =
     let task = known (c .before .before .before .before) in
     rw (task .is-sound, task .in-table, lt-ltb _ _ (c .before .if3 .taken)) (c .refused3 .ensures)
 
-returns-4 : tie.Need-returns-4
-unfolding release jobAt freshJob
-returns-4 c =
-    let e = c .before .before in
-    let task = known (e .before .before .before) in
-    rw (task .is-sound, task .in-table, le-ltb _ _ (e .if3 .left), c .before .if4 .taken) (c .refused4 .ensures)
-
 element-copy-out-task : tie.Need-element-copy-out-task
-element-copy-out-task c = omega (arith, known (c .before .before .before .before .before))
+element-copy-out-task c = omega (arith, known (c .before .before .before .before))
 
 with-job-requires : tie.Need-with-job-requires
-with-job-requires c κs = omega (arith, known (c .before .before .before .before .before .before .before))
+with-job-requires c κs = omega (arith, known (c .before .before .before .before .before .before))
 
-returns-5 : tie.Need-returns-5
+returns-4 : tie.Need-returns-4
 unfolding release taskAt jobAt freshJob zeroTask
-returns-5 c =
+returns-4 c =
     let w = c .before in
-    let f = w .before .before .before .before in
-    let e = f .before in
+    let e = w .before .before .before .before in
     let task = known (e .before .before .before) in
-    rw (task .is-sound, task .in-table, le-ltb _ _ (e .if3 .left), f .if4 .left, ← w .before .released .ensures, ← w .with-job .ensures) (c .done .ensures)
+    rw (task .is-sound, task .in-table, le-ltb _ _ (e .if3 .left), ← w .before .released .ensures, ← w .with-job .ensures) (c .done .ensures)
 
 pub release-spec : {M : Type 1} → statement M
 release-spec =
@@ -81,11 +73,9 @@ release-spec =
     element-copy-out-job
     (λ c κs. search needs)
     returns-3
-    (λ c κs. search needs)
-    returns-4
     (λ c. search needs)
     element-copy-out-task
     (λ c κs. search needs)
     with-job-requires
     (λ c κs. search needs)
-    returns-5)
+    returns-4)
