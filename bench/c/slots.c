@@ -41,7 +41,7 @@ static bool job_sound(const struct job *job, const struct task *task)
     if (!job->open)
         return job->left == 0 && job->budget == 0;
     return 1 <= job->left && job->left <= task->deadline && 1 <= job->budget &&
-           job->budget <= task->budget;
+           job->budget <= task->budget && job->left <= job->gap;
 }
 
 static bool sound(const struct machine *machine)
@@ -65,7 +65,7 @@ static bool release(struct machine *machine, size_t number)
     if (number < 1 || number > machine->table.count)
         return false;
     struct job *job = &machine->jobs[number - 1];
-    if (job->gap > 0 || job->open)
+    if (job->gap > 0)
         return false;
     const struct task *task = &machine->table.tasks[number - 1];
     *job = (struct job){true, task->deadline, task->budget, task->period};
