@@ -15,11 +15,11 @@ use Rattle.text.proofs.Putting.{Partly, partly-none, partly-more, partly-last, 
 use Rattle.machine.specs.Calls.{step}
 use Rattle.machine.specs.declared.machine.Machine.{Machine}
 use Rattle.machine.specs.declared.call.Call.{Call}
-use Rattle.replay.specs.declared.calls.CallLine.the-variants.{Read, Bad}
-use Rattle.replay.specs.Calls.{callOf}
-use Rattle.replay.specs.Output.{Line, badLine, answerLine, refusalRoom, answerRoom, callRoom}
-use Rattle.replay.specs.Script.{onCall, answers}
-use Rattle.replay.proofs.CallLaws.{call-long}
+use Rattle.script.specs.declared.calls.CallLine.the-variants.{Read, Bad}
+use Rattle.script.specs.Calls.{callOf}
+use Rattle.script.specs.Output.{Line, badLine, answerLine, onCall, refusalRoom, answerRoom}
+use Rattle.script.proofs.CallLaws.{call-long}
+use Rattle.replay.specs.Script.{answers, callRoom}
 
 -- the answers to the calls of a text
 abbrev pub answered : Machine → ℕ → List ℕ → List ℕ

@@ -11,9 +11,9 @@ use Rattle.text.specs.Number.{numberAfter}
 use Rattle.text.specs.declared.number.Number.the-variants.{Read, Broken}
 use Rattle.text.proofs.Split.{cut, hasnt-of}
 use Rattle.replay.specs.Words.{coresWord}
-use Rattle.replay.specs.Numbers.{maxDigits, maxNumber}
+use Rattle.script.specs.Numbers.{maxDigits, maxNumber}
 use Rattle.replay.specs.Calls.{callsStart}
-use Rattle.replay.specs.Output.{badLine}
+use Rattle.script.specs.Output.{badLine}
 use Rattle.replay.specs.Script.{printedAfterCores, printedAfterFirst, printed}
 
 module _ (s : List ℕ) (h : length s ≤ 65536) (k : ℕ) (e : k ≡ length (before lineEnd s)) where

@@ -1,6 +1,4 @@
 pub mod Words
-pub mod Numbers
 pub mod Calls
-pub mod Output
 pub mod Script
 pub mod Examples

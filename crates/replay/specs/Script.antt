@@ -15,25 +15,18 @@ use Rattle.tasks.specs.declared.outcome.Outcome.{Outcome}
 use Rattle.tasks.specs.declared.outcome.Outcome.the-variants.{Done, Refused}
 use Rattle.machine.specs.Calls.{start, step}
 use Rattle.machine.specs.declared.machine.Machine.{Machine}
-use Rattle.machine.specs.declared.call.Call.{Call}
 use Rattle.machine.specs.declared.answer.Answer.{Answer}
+use Rattle.script.specs.Numbers.{maxDigits, maxNumber}
+use Rattle.script.specs.Calls.{callOf}
+use Rattle.script.specs.Output.{badLine, answerLine, onCall}
 use Rattle.replay.specs.Words.{coresWord}
-use Rattle.replay.specs.Numbers.{maxDigits, maxNumber}
-use Rattle.replay.specs.Calls.{callOf, callsStart}
-use Rattle.replay.specs.Output.{badLine, answerLine}
-use Rattle.replay.specs.declared.calls.CallLine.{CallLine}
-use Rattle.replay.specs.declared.calls.CallLine.the-variants as Line
+use Rattle.replay.specs.Calls.{callsStart}
 use Rattle.replay.specs.declared.calls.CallsStart.{CallsStart}
 use Rattle.replay.specs.declared.calls.CallsStart.the-variants.{Found, Missing}
 
 -- "at most 65,536 bytes"
 abbrev pub maxScriptLength : ℕ
 maxScriptLength = 65536
-
--- what is printed from a line on: if it is a call, by `played`, and if it is none, `bad`
-unfoldable pub onCall : CallLine → (Call → List ℕ) → List ℕ → List ℕ
-onCall (Line.Read call) played bad = played call
-onCall Line.Bad played bad = bad
 
 -- the lines of answers to the calls of some lines and what stands unended after them: the first line has the number n in the whole script, and
 -- the first call gets the machine m. "A line that is no call prints `BAD LINE n` .. and ends the run", and so does an unended last line
@@ -72,6 +65,11 @@ unfoldable pub printed : List ℕ → List ℕ
 printed s =
     cond (ltb maxScriptLength (length s)) (refusedLine textTooLong)
     (cond (has lineEnd s) (printedAfterFirst (numberAfter maxDigits maxNumber coresWord (before lineEnd s)) (after lineEnd s)) (badLine 1))
+
+-- bytes of the output that are enough for each byte of the calls: the line of a call has at least 6 bytes, its word and byte 10, and its answer's at
+-- most 44
+abbrev pub callRoom : ℕ
+callRoom = 8
 
 -- the room that an array needs for it: 8 bytes for each byte of a script, and 32 more
 abbrev pub room : ℕ

@@ -1,4 +1,4 @@
--- The words of a script and of its answers.
+-- The words of a script that are in no call.
 use Prim.Native.Nat.{ℕ}
 use mathlib.Core.List.{List, [], _∷_}
 
@@ -6,30 +6,6 @@ use mathlib.Core.List.{List, [], _∷_}
 abbrev pub coresWord : List ℕ
 coresWord = 67 ∷ 79 ∷ 82 ∷ 69 ∷ 83 ∷ 32 ∷ []
 
--- "RELEASE" with its space, before i
-abbrev pub releaseWord : List ℕ
-releaseWord = 82 ∷ 69 ∷ 76 ∷ 69 ∷ 65 ∷ 83 ∷ 69 ∷ 32 ∷ []
-
--- "FINISH" with its space, before i
-abbrev pub finishWord : List ℕ
-finishWord = 70 ∷ 73 ∷ 78 ∷ 73 ∷ 83 ∷ 72 ∷ 32 ∷ []
-
--- "JOIN" with its space, before T C D
-abbrev pub joinWord : List ℕ
-joinWord = 74 ∷ 79 ∷ 73 ∷ 78 ∷ 32 ∷ []
-
--- "SLOT" with its space, before k
-abbrev pub slotWord : List ℕ
-slotWord = 83 ∷ 76 ∷ 79 ∷ 84 ∷ 32 ∷ []
-
 -- "CALLS", a line of its own
 abbrev pub callsWord : List ℕ
 callsWord = 67 ∷ 65 ∷ 76 ∷ 76 ∷ 83 ∷ []
-
--- "DONE", a line of its own
-abbrev pub doneWord : List ℕ
-doneWord = 68 ∷ 79 ∷ 78 ∷ 69 ∷ []
-
--- "BAD LINE" with its space, before n
-abbrev pub badLineWord : List ℕ
-badLineWord = 66 ∷ 65 ∷ 68 ∷ 32 ∷ 76 ∷ 73 ∷ 78 ∷ 69 ∷ 32 ∷ []

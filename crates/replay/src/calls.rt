@@ -1,24 +1,7 @@
-// The lines of a script after its line of cores: where its calls begin, and the call of a line. A line stands here without its byte 10.
-use machine::call::Call;
-use tasks::task::Task;
+// Where the calls of a script begin.
 use text::bytes;
-use text::fields;
-use text::fields::Numbers;
-use text::number;
-use text::number::Number;
 ghost use mathlib.Core.Path.{_≡_};
-ghost use Rattle.replay.specs.Calls.{callOf, callsStart};
-
-// The longest number of a script, in digits.
-pub const MAX_DIGITS: usize = 10;
-
-// The largest number of a script.
-pub const MAX_NUMBER: u32 = 4_294_967_295;
-
-pub enum CallLine {
-    Read(Call),
-    Bad,
-}
+ghost use Rattle.replay.specs.Calls.{callsStart};
 
 // The table ends at `table`, the calls start at `calls`, and the first of them is on the line `line` of the script.
 // Missing has the line where CALLS was expected.
@@ -55,40 +38,4 @@ pub fn find_calls(text: &[u8]) -> CallsStart
         line += 1;
     }
     CallsStart::Missing(line)
-}
-
-// The call of a line.
-pub fn call_line(line: &[u8]) -> CallLine
-    ensures { λ r. ⌜ r ≡ callOf (now (line .entry)) ⌝ }
-{
-    if let Number::Read(available) = number::number_after(line, b"SLOT ", MAX_DIGITS, MAX_NUMBER) {
-        return CallLine::Read(Call::Slot(available));
-    }
-    if let Number::Read(number) = number::number_after(line, b"RELEASE ", MAX_DIGITS, MAX_NUMBER) {
-        return CallLine::Read(Call::Release(number));
-    }
-    if let Number::Read(number) = number::number_after(line, b"FINISH ", MAX_DIGITS, MAX_NUMBER) {
-        return CallLine::Read(Call::Finish(number));
-    }
-    if !bytes::begins_with(line, b"JOIN ") {
-        return CallLine::Bad;
-    }
-    let fields = &line[5..];
-    let Numbers::Three {
-        first: period,
-        second: budget,
-        third: deadline,
-        length,
-    } = fields::three_numbers(fields, MAX_DIGITS, MAX_NUMBER)
-    else {
-        return CallLine::Bad;
-    };
-    if length < fields.len() {
-        return CallLine::Bad;
-    }
-    CallLine::Read(Call::Join(Task {
-        period,
-        budget,
-        deadline,
-    }))
 }

@@ -1,9 +1,12 @@
 // Replays a script: starts a machine on its table and cores, and prints a line for each of its calls.
-use crate::calls::CallLine;
 use crate::calls::CallsStart;
-use crate::calls::MAX_DIGITS;
-use crate::calls::MAX_NUMBER;
 use machine::machine::Machine;
+use script::calls::CallLine;
+use script::calls::MAX_DIGITS;
+use script::calls::MAX_NUMBER;
+use script::calls::call_line;
+use script::output::put_answer;
+use script::output::put_bad_line;
 use tasks::outcome::Outcome;
 use tasks::refusals::TEXT_TOO_LONG;
 use text::bytes;
@@ -12,14 +15,13 @@ use text::number::Number;
 use text::output::put_refused;
 
 mod calls;
-mod output;
 
 ghost use Prim.Native.Nat.{_+_, _*_, _≤_};
 ghost use lib.ListN.{length};
 ghost use Rattle.text.specs.Lines.{lines, unended};
 ghost use Rattle.text.specs.Output.{Holds};
-ghost use Rattle.replay.specs.Output.{Line, refusalRoom, callRoom};
-ghost use Rattle.replay.specs.Script.{answers, printedFor, printed, room};
+ghost use Rattle.script.specs.Output.{Line, refusalRoom};
+ghost use Rattle.replay.specs.Script.{answers, printedFor, printed, callRoom, room};
 
 // The most bytes that a script has.
 const MAX_SCRIPT_LENGTH: usize = 65_536;
@@ -41,13 +43,13 @@ fn play(text: &[u8], mut machine: Machine, first: usize, output: &mut [u8]) -> u
     while 0 < rest.len() {
         let length = bytes::find(rest, b'\n');
         if rest.len() <= length {
-            return output::put_bad_line(output, used, line);
+            return put_bad_line(output, used, line);
         }
-        let CallLine::Read(call) = calls::call_line(&rest[..length]) else {
-            return output::put_bad_line(output, used, line);
+        let CallLine::Read(call) = call_line(&rest[..length]) else {
+            return put_bad_line(output, used, line);
         };
         let answer = machine.step(call);
-        used = output::put_answer(output, used, call, answer);
+        used = put_answer(output, used, call, answer);
         machine = answer.machine;
         rest = &rest[length + 1..];
         line += 1;
@@ -85,7 +87,7 @@ fn replay(script: &[u8], output: &mut [u8]) -> usize
     }
     let length = bytes::find(script, b'\n');
     if script.len() <= length {
-        return output::put_bad_line(output, 0, 1);
+        return put_bad_line(output, 0, 1);
     }
     let Number::Read(cores) = number::number_after(
         &script[..length],
@@ -93,11 +95,11 @@ fn replay(script: &[u8], output: &mut [u8]) -> usize
         MAX_DIGITS,
         MAX_NUMBER,
     ) else {
-        return output::put_bad_line(output, 0, 1);
+        return put_bad_line(output, 0, 1);
     };
     let text = &script[length + 1..];
     match calls::find_calls(text) {
-        CallsStart::Missing(line) => output::put_bad_line(output, 0, line),
+        CallsStart::Missing(line) => put_bad_line(output, 0, line),
         CallsStart::Found { table, calls, line } => {
             run(&text[..table], cores, &text[calls..], line, output)
         }

@@ -8,9 +8,9 @@ use lib.ListN.{length, take}
 use lib.Seq.{length-take-le}
 use Rattle.laws.proofs.Parts.{from-length}
 use Rattle.text.proofs.Putting.{put-size}
-use Rattle.replay.specs.declared.calls.CallLine.the-variants.{Read}
-use Rattle.replay.specs.Calls.{callOf}
-use Rattle.replay.specs.Output.{callRoom}
+use Rattle.script.specs.declared.calls.CallLine.the-variants.{Read}
+use Rattle.script.specs.Calls.{callOf}
+use Rattle.replay.specs.Script.{callRoom}
 use Rattle.replay.proofs.Playing.{answered, Playing, play-none, play-all, not-ended, no-call, shorter, play-more}
 use Rattle.replay.proofs.play.Statement.{statement}
 use Rattle.replay.proofs.play.Tie as tie

@@ -10,10 +10,10 @@ use lib.ListN.{length}
 use lib.Seq.{length-take-le}
 use Rattle.laws.proofs.Parts.{past, from-drop, from-length}
 use Rattle.replay.specs.declared.calls.CallsStart.{CallsStart}
-use Rattle.replay.specs.Output.{refusalRoom}
+use Rattle.script.specs.Output.{refusalRoom}
 use Rattle.replay.specs.Script.{printedAfterCores, printed, room}
 use Rattle.replay.proofs.CallsStart.{Within, found-within}
-use Rattle.replay.proofs.OutputLaws.{line-all, refused-put}
+use Rattle.script.proofs.OutputLaws.{line-all, refused-put}
 use Rattle.replay.proofs.ScriptLaws.{first-unended, first-broken, first-read}
 use Rattle.replay.proofs.replay.Statement.{statement}
 use Rattle.replay.proofs.replay.Tie as tie

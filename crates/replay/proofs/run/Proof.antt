@@ -2,7 +2,7 @@
 use native.Mathlib.Omega.{arith}
 use borrow.Author.Needs.{needs}
 use Rattle.replay.specs.Script.{printedAfterStart, printedAfterReading, printedFor}
-use Rattle.replay.proofs.OutputLaws.{refused-put}
+use Rattle.script.proofs.OutputLaws.{refused-put}
 use Rattle.replay.proofs.run.Statement.{statement}
 use Rattle.replay.proofs.run.Tie as tie
 

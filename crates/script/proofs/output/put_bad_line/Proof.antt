@@ -1,8 +1,8 @@
 -- `put_bad_line` meets its contract: the word, and a line of one number.
-use Rattle.replay.proofs.OutputLaws.{bad-put}
+use Rattle.script.proofs.OutputLaws.{bad-put}
 use borrow.Author.Needs.{needs}
-use Rattle.replay.proofs.output.put_bad_line.Statement.{statement}
-use Rattle.replay.proofs.output.put_bad_line.Tie as tie
+use Rattle.script.proofs.output.put_bad_line.Statement.{statement}
+use Rattle.script.proofs.output.put_bad_line.Tie as tie
 
 returns : tie.Need-returns
 returns c =

@@ -2,11 +2,11 @@
 use Prim.Native.Nat.{_≤_}
 use lib.ListN.{length}
 use Rattle.machine.specs.declared.answer.Report.{Report}
-use Rattle.replay.specs.Output.{reportLine, answerRoom}
-use Rattle.replay.proofs.OutputLaws.{report-few}
+use Rattle.script.specs.Output.{reportLine, answerRoom}
+use Rattle.script.proofs.OutputLaws.{report-few}
 use borrow.Author.Needs.{needs}
-use Rattle.replay.proofs.output.put_report.Statement.{statement}
-use Rattle.replay.proofs.output.put_report.Tie as tie
+use Rattle.script.proofs.output.put_report.Statement.{statement}
+use Rattle.script.proofs.output.put_report.Tie as tie
 
 abbrev report-of : tie.After-late → Report
 report-of c = c .before .before .before .before .args .report

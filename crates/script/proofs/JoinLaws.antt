@@ -13,9 +13,9 @@ use Rattle.text.proofs.Split.{gone, has-of, hasnt-of}
 use Rattle.text.proofs.ThreeNumbers.{three-are, three-are-not}
 use Rattle.text.proofs.NumbersOn.{not-ended}
 use Rattle.machine.specs.declared.call.Call.the-variants.{Join}
-use Rattle.replay.specs.Numbers.{maxDigits, maxNumber}
-use Rattle.replay.specs.Calls.{joinOf}
-use Rattle.replay.specs.declared.calls.CallLine.the-variants.{Read, Bad}
+use Rattle.script.specs.Numbers.{maxDigits, maxNumber}
+use Rattle.script.specs.Calls.{joinOf}
+use Rattle.script.specs.declared.calls.CallLine.the-variants.{Read, Bad}
 
 module _ (f : List ℕ) where
   -- a byte 10 is in none of three numbers

@@ -11,9 +11,11 @@ use Rattle.machine.specs.declared.call.Call.the-variants.{Release, Finish, Slot
 use Rattle.machine.specs.declared.answer.Answer.{Answer}
 use Rattle.machine.specs.declared.answer.Report.{Report}
 use Rattle.machine.specs.Mask.{mask}
-use Rattle.replay.specs.Words.{doneWord, badLineWord}
+use Rattle.script.specs.Words.{doneWord, badLineWord}
+use Rattle.script.specs.declared.calls.CallLine.{CallLine}
+use Rattle.script.specs.declared.calls.CallLine.the-variants.{Read, Bad}
 
--- "A line that is no call prints `BAD LINE n`", and so does a first line that is not `CORES m`, and the place where `CALLS` is missing
+-- "A line that is no call prints `BAD LINE n`", and so does any other line that is not what it must be, and the place of a line that is missing
 unfoldable pub badLine : ℕ → List ℕ
 badLine n = badLineWord ++ numbersLine (n ∷ [])
 
@@ -37,6 +39,11 @@ outcomeLine (Refused number place) call r = refusedLine number
 unfoldable pub answerLine : Call → Answer → List ℕ
 answerLine call a = outcomeLine (a .outcome) call (a .report)
 
+-- what is printed from a line on: if it is a call, by `played`, and if it is none, `bad`
+unfoldable pub onCall : CallLine → (Call → List ℕ) → List ℕ → List ℕ
+onCall (Read call) played bad = played call
+onCall Bad played bad = bad
+
 -- bytes that are enough for a line `REFUSED n` or `BAD LINE n`
 abbrev pub refusalRoom : ℕ
 refusalRoom = 32
@@ -44,11 +51,6 @@ refusalRoom = 32
 -- bytes that are enough for the line of an answer: four numbers of ten digits, and a byte after each
 abbrev pub answerRoom : ℕ
 answerRoom = 44
-
--- bytes of the output that are enough for each byte of the calls: the line of a call has at least 6 bytes, its word and byte 10, and its answer's at
--- most 44
-abbrev pub callRoom : ℕ
-callRoom = 8
 
 -- a text of at most so many bytes was put after the first `used` bytes of an array
 pub record Line (most : ℕ) (before : List ℕ) (used : ℕ) (text after : List ℕ) (r : ℕ) : Type 0 where

@@ -20,8 +20,8 @@ use Rattle.machine.specs.declared.call.Call.the-variants.{Release, Finish, Slot
 use Rattle.machine.specs.declared.answer.Report.{Report}
 use Rattle.machine.specs.Mask.{mask}
 use Rattle.machine.proofs.MaskTurn.{mask-below}
-use Rattle.replay.specs.Words.{doneWord, badLineWord}
-use Rattle.replay.specs.Output.{Line, badLine, reportLine, acceptedLine, refusalRoom, answerRoom}
+use Rattle.script.specs.Words.{doneWord, badLineWord}
+use Rattle.script.specs.Output.{Line, badLine, reportLine, acceptedLine, refusalRoom, answerRoom}
 
 -- a text that was put at the start of an array which has room for it
 pub line-all : (most : ℕ) (a b s : List ℕ) (r : ℕ) → most ≤ length a → Line most a 0 s b r → Holds s b r

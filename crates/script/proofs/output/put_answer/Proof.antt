@@ -1,10 +1,10 @@
 -- `put_answer` meets its contract: by the outcome, and then by the call.
 use native.Mathlib.Omega.{arith}
-use Rattle.replay.specs.Output.{acceptedLine, outcomeLine, answerLine, answerRoom}
-use Rattle.replay.proofs.OutputLaws.{refused-put, done-line, done-put}
+use Rattle.script.specs.Output.{acceptedLine, outcomeLine, answerLine, answerRoom}
+use Rattle.script.proofs.OutputLaws.{refused-put, done-line, done-put}
 use borrow.Author.Needs.{needs}
-use Rattle.replay.proofs.output.put_answer.Statement.{statement}
-use Rattle.replay.proofs.output.put_answer.Tie as tie
+use Rattle.script.proofs.output.put_answer.Statement.{statement}
+use Rattle.script.proofs.output.put_answer.Tie as tie
 
 returns : tie.Need-returns
 unfolding answerLine outcomeLine

@@ -11,11 +11,11 @@ use Rattle.text.specs.declared.number.Number.{Number}
 use Rattle.text.proofs.WordLaws.{not-longer}
 use Rattle.machine.specs.declared.call.Call.{Call}
 use Rattle.machine.specs.declared.call.Call.the-variants.{Release, Finish, Slot}
-use Rattle.replay.specs.Words.{releaseWord, finishWord, joinWord, slotWord}
-use Rattle.replay.specs.Numbers.{maxDigits, maxNumber}
-use Rattle.replay.specs.Calls.{callWith, callOf}
-use Rattle.replay.specs.declared.calls.CallLine.{CallLine}
-use Rattle.replay.specs.declared.calls.CallLine.the-variants.{Read}
+use Rattle.script.specs.Words.{releaseWord, finishWord, joinWord, slotWord}
+use Rattle.script.specs.Numbers.{maxDigits, maxNumber}
+use Rattle.script.specs.Calls.{callWith, callOf}
+use Rattle.script.specs.declared.calls.CallLine.{CallLine}
+use Rattle.script.specs.declared.calls.CallLine.the-variants.{Read}
 
 -- a line that begins with a word of five bytes or more, or is another line
 word-long :

@@ -10,14 +10,14 @@ use Rattle.text.specs.Words.{beginsWith}
 use Rattle.text.specs.Number.{numberAfter}
 use Rattle.text.specs.declared.number.Number.the-variants.{Broken}
 use Rattle.text.proofs.WordLaws.{not-longer}
-use Rattle.replay.specs.declared.calls.CallLine.the-variants.{Bad}
-use Rattle.replay.specs.Words.{releaseWord, finishWord, joinWord, slotWord}
-use Rattle.replay.specs.Numbers.{maxDigits, maxNumber}
-use Rattle.replay.specs.Calls.{joinOf, callWith, callOf}
-use Rattle.replay.proofs.JoinLaws.{join-broken, join-longer, join-read}
+use Rattle.script.specs.declared.calls.CallLine.the-variants.{Bad}
+use Rattle.script.specs.Words.{releaseWord, finishWord, joinWord, slotWord}
+use Rattle.script.specs.Numbers.{maxDigits, maxNumber}
+use Rattle.script.specs.Calls.{joinOf, callWith, callOf}
+use Rattle.script.proofs.JoinLaws.{join-broken, join-longer, join-read}
 use borrow.Author.Needs.{needs}
-use Rattle.replay.proofs.calls.call_line.Statement.{statement}
-use Rattle.replay.proofs.calls.call_line.Tie as tie
+use Rattle.script.proofs.calls.call_line.Statement.{statement}
+use Rattle.script.proofs.calls.call_line.Tie as tie
 
 -- the line, from the place where it was no slot; and that place and the next, where it was no release either, from those after them
 abbrev line : tie.After-enum-told → List ℕ

@@ -7,7 +7,7 @@ use tasks::outcome::Outcome;
 use text::output::put;
 use text::output::put_numbers;
 use text::output::put_refused;
-ghost use Rattle.replay.specs.Output.{Line, badLine, reportLine, answerLine, refusalRoom, answerRoom};
+ghost use Rattle.script.specs.Output.{Line, badLine, reportLine, answerLine, refusalRoom, answerRoom};
 
 // The line for a line of the script that is not what it must be.
 pub fn put_bad_line(output: &mut [u8], used: usize, line: usize) -> usize

@@ -1,0 +1,37 @@
+-- The call of a line (docs/HANDBOOK.md, "Replaying calls"): "one call a line: `RELEASE i`, `FINISH i`, `SLOT k`, `JOIN T C D`".
+use Prim.Native.Nat.{ℕ}
+use mathlib.Core.List.{List}
+use mathlib.Core.Bool.{cond}
+use lib.ListN.{length, drop}
+use Rattle.text.specs.Lines.{field}
+use Rattle.text.specs.Words.{beginsWith}
+use Rattle.text.specs.Number.{decimal, numberAfter}
+use Rattle.text.specs.Fields.{areThree}
+use Rattle.text.specs.declared.number.Number.{Number}
+use Rattle.text.specs.declared.number.Number.the-variants as Number
+use Rattle.machine.specs.declared.call.Call.{Call}
+use Rattle.machine.specs.declared.call.Call.the-variants.{Release, Finish, Slot, Join}
+use Rattle.script.specs.Words.{releaseWord, finishWord, joinWord, slotWord}
+use Rattle.script.specs.Numbers.{maxDigits, maxNumber}
+use Rattle.script.specs.declared.calls.CallLine.{CallLine}
+use Rattle.script.specs.declared.calls.CallLine.the-variants.{Read, Bad}
+
+-- the join of the fields "T C D", if they are three numbers
+unfoldable pub joinOf : List ℕ → CallLine
+joinOf f =
+    cond (areThree maxDigits maxNumber f)
+    (Read (Join (record { period = decimal (field 0 f); budget = decimal (field 1 f); deadline = decimal (field 2 f) })))
+    Bad
+
+-- the call that names one number, if it was read; else what the line is otherwise
+unfoldable pub callWith : Number → (ℕ → Call) → CallLine → CallLine
+callWith (Number.Read n) call other = Read (call n)
+callWith Number.Broken call other = other
+
+-- the call of a line
+unfoldable pub callOf : List ℕ → CallLine
+callOf l =
+    callWith (numberAfter maxDigits maxNumber slotWord l) Slot
+    (callWith (numberAfter maxDigits maxNumber releaseWord l) Release
+    (callWith (numberAfter maxDigits maxNumber finishWord l) Finish
+    (cond (beginsWith joinWord l) (joinOf (drop (length joinWord) l)) Bad)))

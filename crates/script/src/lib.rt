@@ -1,0 +1,3 @@
+// Lines of calls and of their answers, for replay and probe.
+pub mod calls;
+pub mod output;
