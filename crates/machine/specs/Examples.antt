@@ -104,7 +104,7 @@ madeByHand isOpen left budget gap =
       jobs = set (replicate maxTasks freshJob) 0 (record { «open» = isOpen; left = left; budget = budget; gap = gap });
     }
 
--- calls of every kind, and each with a fault of its own
+-- calls of every kind, each also with a number, cores or a task that it refuses
 unfoldable pub allKinds : List Call
 allKinds =
     Release 1 ∷ Release 2 ∷ Finish 1 ∷ Finish 2 ∷ Slot 1 ∷ Slot 0 ∷ Join (task 9 1 9) ∷ Join (task 5 6 5) ∷ []
@@ -123,7 +123,7 @@ ignored call number =
     ignoredIs example 2 (Release 1 ∷ Release 2 ∷ Slot 2 ∷ []) call number (Release 3 ∷ replicate 6 (Slot 2))
     (line 3 1 0 ∷ line 6 2 0 ∷ line 4 0 0 ∷ line 4 0 0 ∷ line 4 0 0 ∷ line 4 0 0 ∷ line 4 4 0 ∷ [])
 
--- runs of the machine
+-- runs of the machine, and which machines are sound
 unfoldable pub examples : List Bool
 examples =
     -- 32 tasks on 16 cores: COUNT 12, admitted; on 11 cores the same COUNT, refused
@@ -162,6 +162,8 @@ examples =
     -- refused calls that change no later answer: a release too soon, a finish of a closed task
     ignored (Release 1) 9 ∷
     ignored (Finish 1) 11 ∷
+    -- a release of a task whose job is open
+    ignored (Release 2) 9 ∷
     -- the task numbers 0 and n + 1
     ignored (Release 0) 8 ∷
     ignored (Release 4) 8 ∷
@@ -211,11 +213,21 @@ examples =
     sound (madeByHand false 0 0 0) ∷
     sound (madeByHand false 0 0 6) ∷
     not (sound (madeByHand false 0 0 7)) ∷
+    -- the other bounds of an open job: its gap by T, its left by 1 and D, its budget by 1 and C; and a closed one has neither left nor budget
+    not (sound (madeByHand true 5 3 7)) ∷
+    not (sound (madeByHand true 0 1 6)) ∷
+    not (sound (madeByHand true 6 3 6)) ∷
+    not (sound (madeByHand true 4 0 4)) ∷
+    not (sound (madeByHand true 4 4 4)) ∷
+    not (sound (madeByHand false 1 0 1)) ∷
+    not (sound (madeByHand false 0 1 0)) ∷
     -- a gap below left is told by 0 before all else, and by every call
     sameNumbers (refusals (play (madeByHand true 4 2 3) allKinds)) (replicate 8 0) ∷
-    -- a release: first 8, then 9, also of an open job, and no 10; after its gap of four slots it is accepted
-    sameNumbers (refusals (play (madeByHand true 4 2 4) (Release 2 ∷ Release 1 ∷ replicate 3 (Slot 1) ++ Release 1 ∷ Slot 1 ∷ Release 1 ∷ [])))
-    (8 ∷ 9 ∷ 9 ∷ []) ∷
+    -- a release of an open job is refused by 9, also in the last slot of its gap
+    sameNumbers (refusals (play (madeByHand true 4 2 4) (Release 2 ∷ Release 1 ∷ []))) (8 ∷ 9 ∷ []) ∷
+    sameNumbers (refusals (play (madeByHand true 1 1 1) (Release 1 ∷ []))) (9 ∷ []) ∷
+    -- after a gap of four slots a release is accepted, and not after three
+    sameNumbers (refusals (play (madeByHand true 4 2 4) (replicate 3 (Slot 1) ++ Release 1 ∷ Slot 1 ∷ Release 1 ∷ []))) (9 ∷ []) ∷
     []
 
 -- a slot of a log made by hand, by what it says of task 1: whether it ran, and whether it finished; of the others it says nothing

@@ -1,5 +1,5 @@
--- The release as it was before document 02's change 3, on machines sound in the former sense, for the theorem `release-as-before`
--- (proofs/ReleaseAsBefore.antt) alone.
+-- The release as it was before document 02's change 3, with soundness as it was, for the theorem `release-as-before` alone
+-- (crates/machine/proofs/ReleaseAsBefore.antt).
 use Prim.Native.Nat.{ℕ, zero, suc, _-_}
 use mathlib.Core.Bool.{Bool, true, cond, not, _&&_}
 use lib.Dec.{ltb}
@@ -13,10 +13,6 @@ use Rattle.machine.specs.Calls.{done, refuse}
 use Rattle.machine.specs.declared.machine.Machine.{Machine}
 use Rattle.machine.specs.declared.answer.Answer.{Answer}
 
--- document 01: "10. A release comes while the task's job is still open."
-abbrev pub jobStillOpen : ℕ
-jobStillOpen = 10
-
 -- the first n jobs were sound
 unfoldable pub formerJobsSound : Machine → (n : ℕ) → Bool
 formerJobsSound m zero = true
@@ -26,11 +22,11 @@ formerJobsSound m (suc n) = formerJobsSound m n && formerJobSound (taskAt m n) (
 unfoldable pub formerSound : Machine → Bool
 formerSound m = isDone (checked (m .table) (m .cores)) && formerJobsSound m (m .table .count)
 
--- document 01: "Release: 8, 9, 10", after 0
+-- document 01: "Release: 8, 9, 10", after 0; "10. A release comes while the task's job is still open."
 unfoldable pub formerRelease : Machine → (number : ℕ) → Answer
 formerRelease m number =
     let i = number - 1 in
     cond (not (formerSound m)) (refuse m unsoundMachine)
     (cond (not (inTable m number)) (refuse m noSuchTask)
     (cond (ltb 0 (jobAt m i .gap)) (refuse m releasedTooSoon)
-    (cond (jobAt m i .«open») (refuse m jobStillOpen) (done (withJob m i (releasedJob (taskAt m i)))))))
+    (cond (jobAt m i .«open») (refuse m 10) (done (withJob m i (releasedJob (taskAt m i)))))))

@@ -1,4 +1,4 @@
--- Sound machines: document 01, "Why a call is not carried out", number 0.
+-- Sound machines: document 01, "Why a call is not carried out", number 0, which document 02, change 3, extends.
 use Prim.Native.Nat.{ℕ, zero, suc}
 use mathlib.Core.Bool.{Bool, true, _&&_}
 use Rattle.tasks.specs.Check.{checked}
