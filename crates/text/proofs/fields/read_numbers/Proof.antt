@@ -47,7 +47,7 @@ read-is :
 read-is c = sym (c .before .before .number-up-to .ensures) ∙ c .number .given .1
 
 same-length-2 : tie.Need-same-length-2 Inv-loop μ-loop
-same-length-2 c = let l = c .before .before .before .before .before .before in length-set (l .loop .numbers) (l .loop .i) (c .before .before .number .given .0 .0) ∙ l .loop .inv .1
+same-length-2 c = simp length-set (c .before .before .before .before .before .before .loop .inv .1)
 
 returns-2 : tie.Need-returns-2 Inv-loop μ-loop
 returns-2 c =
@@ -62,15 +62,15 @@ add-rest c =
 
 loop-less : tie.Need-loop-less Inv-loop μ-loop
 loop-less c =
-    let l = c .before .before .before .before .before .before .before in
-    omega (arith, length-set (l .loop .numbers) (l .loop .i) (c .before .before .before .number .given .0 .0), c .before .before .before .before .before .before .loop-test .taken)
+    let t = c .before .before .before .before .before .before in
+    simp length-set (omega (arith, t .loop-test .taken))
 
 loop-again : tie.Need-loop-again Inv-loop μ-loop
 loop-again c =
     let e = c .before in
     let n = e .before .before in
     let t = n .before .before .before in
-    (reading-more _ _ _ _ _ _ (t .before .loop .inv .0) (t .loop-test .taken) _ _ (read-is n) (e .if1 .left), length-set (t .before .loop .numbers) (t .before .loop .i) (n .number .given .0 .0) ∙ t .before .loop .inv .1)
+    (reading-more _ _ _ _ _ _ (t .before .loop .inv .0) (t .loop-test .taken) _ _ (read-is n) (e .if1 .left), simp length-set (t .before .loop .inv .1))
 
 same-length-3 : tie.Need-same-length-3 Inv-loop μ-loop
 same-length-3 c = c .before .loop .inv .1
