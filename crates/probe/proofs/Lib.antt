@@ -1,0 +1,4 @@
+pub mod InputLaws
+pub mod Filling
+pub mod Showing
+pub mod PrintedLaws

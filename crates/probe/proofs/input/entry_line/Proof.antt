@@ -1,0 +1,79 @@
+-- `entry_line` meets its contract: by the line's end, its seven numbers, and the fourth of them.
+use Prim.Native.Nat.{ℕ}
+use native.Mathlib.Nat.{le-of-lt}
+use mathlib.Core.Path.{_≡_, sym}
+use mathlib.Core.Bool.{true}
+use mathlib.Core.List.{List}
+use borrow.Author.Tests.{not-false}
+use borrow.Author.Needs.{needs}
+use lib.ListN.{length, take}
+use lib.Seq.{length-take-le}
+use Rattle.laws.proofs.Booleans.{was-false}
+use Rattle.text.specs.Fields.{NumbersRead}
+use Rattle.script.specs.Numbers.{maxDigits, maxNumber}
+use Rattle.probe.proofs.InputLaws.{no-entry, no-seven, no-flag, entry-read}
+use Rattle.probe.proofs.input.entry_line.Statement.{statement}
+use Rattle.probe.proofs.input.entry_line.Tie as tie
+
+returns : tie.Need-returns
+returns c = no-entry _ _ (c .before .find .ensures) (c .if1 .taken)
+
+slice-aggregate-read-numbers : tie.Need-slice-aggregate-read-numbers
+slice-aggregate-read-numbers c = sym (length-take-le _ _ (le-of-lt (c .before .if1 .left)))
+
+-- the numbers of the line
+abbrev line-of : tie.After-read-numbers → tie.Else1
+line-of c = c .before .before .before
+
+abbrev numbers : tie.After-read-numbers → List ℕ
+numbers c = c .read-numbers .last .1 .0
+
+seven : (c : tie.After-read-numbers) → length (numbers c) ≡ 7
+seven c = search needs
+
+seven-read :
+    (c : tie.Else2)
+    → let n = c .before .before in
+    let d = line-of n in
+    NumbersRead maxDigits maxNumber (take (d .before .find .result) (d .before .before .before .args .text .now)) (numbers n) true
+seven-read c = let n = c .before .before in rw (not-false (n .read-numbers .result) (c .if2 .left)) at (n .read-numbers .ensures)
+
+returns-2 : tie.Need-returns-2
+returns-2 c =
+    let n = c .before .before in
+    let d = line-of n in
+    no-seven _ _ (d .before .find .ensures) (d .if1 .left) (rw (seven n) at (was-false (n .read-numbers .ensures .is) (c .if2 .taken)))
+
+returns-3 : tie.Need-returns-3
+returns-3 c =
+    let n = c .before .before .before in
+    let d = line-of n in
+    no-flag _ _ (d .before .find .ensures) (d .if1 .left) _ (seven n) (seven-read (c .before)) (c .if3 .taken)
+
+returns-4 : tie.Need-returns-4
+returns-4 c =
+    let n = c .before .before .before in
+    let d = line-of n in
+    entry-read _ _ (d .before .find .ensures) (d .if1 .left) _ (seven n) (seven-read (c .before)) (c .if3 .left)
+
+pub entry-line-spec : {M : Type 1} → statement M
+entry-line-spec =
+    tie.close
+    (tie.spec
+    (λ c κs. search needs)
+    returns
+    slice-aggregate-read-numbers
+    (λ c. search needs)
+    (λ c κs. search needs)
+    returns-2
+    (λ c. search needs)
+    returns-3
+    (λ c. search needs)
+    (λ c. search needs)
+    (λ c. search needs)
+    (λ c. search needs)
+    (λ c. search needs)
+    (λ c. search needs)
+    (λ c. search needs)
+    (λ c. search needs)
+    returns-4)

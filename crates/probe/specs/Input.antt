@@ -1,0 +1,82 @@
+-- The lines of the input (docs/HANDBOOK.md, "Probing one call"): "a line `MACHINE count cores`, then 32 lines of seven numbers `PERIOD BUDGET
+-- DEADLINE OPEN LEFT OWED GAP` .., then one call line as in replay, and nothing after it".
+use Prim.Native.Nat.{ℕ, _+_}
+use mathlib.Core.List.{List}
+use mathlib.Core.Bool.{Bool, cond, _&&_}
+use lib.Dec.{eqb, leb}
+use lib.ListN.{length, drop, set, replicate}
+use Rattle.text.specs.Lines.{lineEnd, has, before, after, isEmpty, field}
+use Rattle.text.specs.Words.{beginsWith}
+use Rattle.text.specs.Number.{decimal}
+use Rattle.text.specs.Fields.{areNumbers}
+use Rattle.tasks.specs.Limits.{maxTasks}
+use Rattle.tasks.specs.Table.{zeroTask}
+use Rattle.tasks.specs.declared.task.Task.{Task}
+use Rattle.job.specs.Job.{freshJob}
+use Rattle.job.specs.declared.job.Job.{Job}
+use Rattle.machine.specs.declared.machine.Machine.{Machine}
+use Rattle.script.specs.Numbers.{maxDigits, maxNumber}
+use Rattle.script.specs.Calls.{callOf}
+use Rattle.script.specs.declared.calls.CallLine.{CallLine}
+use Rattle.script.specs.declared.calls.CallLine.the-variants as Line
+use Rattle.probe.specs.Words.{machineWord}
+use Rattle.probe.specs.declared.input.MachineLine.{MachineLine}
+use Rattle.probe.specs.declared.input.MachineLine.the-variants as Machine
+use Rattle.probe.specs.declared.input.EntryLine.{EntryLine}
+use Rattle.probe.specs.declared.input.EntryLine.the-variants as Entry
+use Rattle.probe.specs.declared.input.LastLine.{LastLine}
+use Rattle.probe.specs.declared.input.LastLine.the-variants as Last
+
+-- whether the first line of a text is ended and is what it must be: "each line, the last one too, ends with byte 10"
+unfoldable pub begins : (must : List ℕ → Bool) → List ℕ → Bool
+begins must s = has lineEnd s && must (before lineEnd s)
+
+-- "`MACHINE count cores`", where "count and cores are such numbers"
+unfoldable pub isMachineLine : List ℕ → Bool
+isMachineLine l = beginsWith machineWord l && areNumbers maxDigits maxNumber 2 (drop (length machineWord) l)
+
+-- the count and the cores of such a line
+unfoldable pub countOf : List ℕ → ℕ
+countOf l = decimal (field 0 (drop (length machineWord) l))
+
+unfoldable pub coresOf : List ℕ → ℕ
+coresOf l = decimal (field 1 (drop (length machineWord) l))
+
+-- a machine before its entries are read: they are all zero
+unfoldable pub blankMachine : (count cores : ℕ) → Machine
+blankMachine count cores =
+    record { table = record { count = count; tasks = replicate maxTasks zeroTask }; cores = cores; jobs = replicate maxTasks freshJob }
+
+-- "seven numbers `PERIOD BUDGET DEADLINE OPEN LEFT OWED GAP`", where "OPEN is 0 or 1"
+unfoldable pub isEntryLine : List ℕ → Bool
+isEntryLine l = areNumbers maxDigits maxNumber 7 l && leb (decimal (field 3 l)) 1
+
+-- the task of such a line, and its job: "OWED the budget still owed"
+unfoldable pub taskOf : List ℕ → Task
+taskOf l = record { period = decimal (field 0 l); budget = decimal (field 1 l); deadline = decimal (field 2 l) }
+
+unfoldable pub jobOf : List ℕ → Job
+jobOf l =
+    record { «open» = eqb (decimal (field 3 l)) 1; left = decimal (field 4 l); budget = decimal (field 5 l); gap = decimal (field 6 l) }
+
+-- a machine with another task and job at an index: the lines are "one for each entry of the machine"
+unfoldable pub withEntry : Machine → ℕ → Task → Job → Machine
+withEntry m i t j =
+    record { table = record { count = m .table .count; tasks = set (m .table .tasks) i t }; cores = m .cores; jobs = set (m .jobs) i j }
+
+-- what the first line of a text says, and how many bytes it has with its byte 10
+unfoldable pub machineLine : List ℕ → MachineLine
+machineLine s =
+    let l = before lineEnd s in cond (begins isMachineLine s) (Machine.Read (countOf l) (coresOf l) (length l + 1)) Machine.Bad
+
+unfoldable pub entryOf : List ℕ → EntryLine
+entryOf s = let l = before lineEnd s in cond (begins isEntryLine s) (Entry.Read (taskOf l) (jobOf l) (length l + 1)) Entry.Bad
+
+-- the call of line 34, after which nothing may follow: "after 34 good lines anything that follows is line 35"
+unfoldable pub onlyCall : CallLine → (following : List ℕ) → LastLine
+onlyCall (Line.Read call) following = cond (isEmpty following) (Last.Read call) (Last.Bad 35)
+onlyCall Line.Bad following = Last.Bad 34
+
+-- the same of a text that begins with line 34: it is bad too where it "is not ended, or is missing"
+unfoldable pub lastLine : List ℕ → LastLine
+lastLine s = cond (has lineEnd s) (onlyCall (callOf (before lineEnd s)) (after lineEnd s)) (Last.Bad 34)

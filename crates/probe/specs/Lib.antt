@@ -1,0 +1,4 @@
+pub mod Words
+pub mod Input
+pub mod Output
+pub mod Printed

@@ -1,0 +1,72 @@
+// Probes one call: makes it on the machine of the input, and prints its answer and the machine after it.
+use crate::input::LastLine;
+use crate::input::MachineLine;
+use machine::call::Call;
+use machine::machine::Machine;
+use script::output::put_answer;
+use script::output::put_bad_line;
+
+mod input;
+mod output;
+
+ghost use Prim.Native.Nat.{_≤_};
+ghost use lib.ListN.{length};
+ghost use Rattle.text.specs.Output.{Holds};
+ghost use Rattle.script.specs.Output.{Line};
+ghost use Rattle.probe.specs.Printed.{shown, printed, room};
+
+// More bytes than a good text has: at most 30 of its first line, 68 of each entry's and 38 of the call's, 2,244 in all. A longer text has its first
+// bad line within them.
+const INPUT_ROOM: usize = 4_096;
+
+// In contracts `room`.
+const OUTPUT_ROOM: usize = 2_548;
+
+// Makes a call: puts its answer and the machine after it.
+fn make(machine: Machine, call: Call, output: &mut [u8]) -> usize
+    ensures { λ r. ⌜ Line room (now (output .entry)) 0 (shown machine call) (now (output .exit)) r ⌝ }
+{
+    let answer = machine.step(call);
+    let used = put_answer(output, 0, call, answer);
+    let after = answer.machine;
+    output::put_machine(output, used, after)
+}
+
+// Puts what is printed for a text at the start of the output: how many bytes it is.
+fn probe(text: &[u8], output: &mut [u8]) -> usize
+    requires { ⌜ room ≤ length (now output) ⌝ }
+    ensures { λ r. ⌜ Holds (printed (now (text .entry))) (now (output .exit)) r ⌝ }
+{
+    let MachineLine::Read {
+        count,
+        cores,
+        length,
+    } = input::machine_line(text)
+    else {
+        return put_bad_line(output, 0, 1);
+    };
+    let lines = &text[length..];
+    let entries = input::read_entries(lines, input::blank_machine(count, cores));
+    if entries.bad != 0 {
+        return put_bad_line(output, 0, entries.bad);
+    }
+    let at = entries.length;
+    let machine = entries.machine;
+    match input::last_line(&lines[at..]) {
+        LastLine::Bad(line) => put_bad_line(output, 0, line),
+        LastLine::Read(call) => make(machine, call, output),
+    }
+}
+
+// Reads a text into one array and writes what is printed for it from the other.
+fn print(space: [u8; INPUT_ROOM], room: [u8; OUTPUT_ROOM]) {
+    let mut text = space;
+    let mut output = room;
+    let n = stdio::read_input(&mut text);
+    let used = probe(&text[..n], &mut output);
+    stdio::write_output(&output, used);
+}
+
+fn main() {
+    print([0; INPUT_ROOM], [0; OUTPUT_ROOM]);
+}

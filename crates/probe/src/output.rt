@@ -1,0 +1,52 @@
+// The lines of a machine. What puts a line answers how many bytes the array then holds.
+use job::job::Job;
+use machine::machine::Machine;
+use tasks::limits::MAX_TASKS;
+use tasks::task::Task;
+use text::output::put;
+use text::output::put_numbers;
+ghost use Rattle.tasks.specs.Limits.{maxTasks};
+ghost use Rattle.script.specs.Output.{Line};
+ghost use Rattle.probe.specs.Output.{entryLine, entryLines, machineLines, entryRoom, entriesRoom, machineRoom};
+
+// The seven numbers of an entry.
+fn put_entry(output: &mut [u8], used: usize, task: Task, job: Job) -> usize
+    ensures { λ r. ⌜ Line entryRoom (now (output .entry)) used (entryLine task job) (now (output .exit)) r ⌝ }
+{
+    let numbers = [
+        task.period as u64,
+        task.budget as u64,
+        task.deadline as u64,
+        job.open as u64,
+        job.left as u64,
+        job.budget as u64,
+        job.gap as u64,
+    ];
+    put_numbers(output, used, &numbers)
+}
+
+// All entries, those past the count too.
+fn put_entries(output: &mut [u8], used: usize, machine: Machine) -> usize
+    ensures { λ r. ⌜ Line entriesRoom (now (output .entry)) used (entryLines machine 0 maxTasks) (now (output .exit)) r ⌝ }
+{
+    let table = machine.table;
+    let mut at = used;
+    let mut i: usize = 0;
+    while i < MAX_TASKS {
+        let task = table.tasks[i];
+        let job = machine.jobs[i];
+        at = put_entry(output, at, task, job);
+        i += 1;
+    }
+    at
+}
+
+// The 33 lines of a machine.
+pub fn put_machine(output: &mut [u8], used: usize, machine: Machine) -> usize
+    ensures { λ r. ⌜ Line machineRoom (now (output .entry)) used (machineLines machine) (now (output .exit)) r ⌝ }
+{
+    let at = put(output, used, b"MACHINE ");
+    let numbers = [machine.table.count as u64, machine.cores as u64];
+    let at = put_numbers(output, at, &numbers);
+    put_entries(output, at, machine)
+}
