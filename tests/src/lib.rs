@@ -1,17 +1,23 @@
 //! An independent check of the table reader, the window test and the slot
-//! machine, written from document 01 and changes 1 and 2 of document 02 alone
+//! machine, written from document 01 and changes 1, 2 and 3 of document 02 alone
 //! and compared with the C entry and the programs.
 
+pub mod edges;
 pub mod experiment;
+pub mod faults;
 pub mod host;
 pub mod machine;
 pub mod oracle;
+pub mod parts;
+pub mod probe;
+pub mod probes;
 pub mod program;
 pub mod promise;
 pub mod random;
 pub mod reading;
 pub mod script;
 pub mod scripts;
+pub mod seen;
 pub mod sessions;
 pub mod settings;
 pub mod tables;

@@ -1,6 +1,7 @@
 //! The dispatching machine: document 01, "The slot machine", with the refusals
-//! of "Why a call is not carried out", and changes 1 and 2 of document 02: each
-//! slot names its cores, and of equal deadlines the longer job goes first.
+//! of "Why a call is not carried out", and changes 1, 2 and 3 of document 02: each
+//! slot names its cores, of equal deadlines the longer job goes first, and an open
+//! task whose gap is below its left makes a machine unsound.
 
 use std::cmp::Reverse;
 
@@ -50,10 +51,13 @@ impl Job {
         self.budget = 0;
     }
 
-    // Number 0 for one task.
+    // Number 0 for one task. A gap equal to left is sound, and a closed task's gap
+    // is only held against T.
     fn is_sound(&self, task: &Task) -> bool {
         let numbers = if self.open {
-            (1..=task.deadline).contains(&self.left) && (1..=task.budget).contains(&self.budget)
+            (1..=task.deadline).contains(&self.left)
+                && (1..=task.budget).contains(&self.budget)
+                && self.gap >= self.left
         } else {
             self.left == 0 && self.budget == 0
         };
@@ -72,16 +76,14 @@ impl Machine {
         })
     }
 
-    /// Release of a task. Refusals: 0, 8, 9, 10.
+    /// Release of a task. Refusals: 0, 8, 9. Number 9 covers an open task too: on
+    /// a sound machine its gap is at least its left, and so above 0.
     pub fn release(&mut self, number: u32) -> Result<(), Refusal> {
         self.check_soundness()?;
         let index = self.index(number)?;
         let (task, job) = (self.table[index], &mut self.jobs[index]);
         if job.gap > 0 {
             return Err(Refusal::whole(9));
-        }
-        if job.open {
-            return Err(Refusal::whole(10));
         }
         *job = Job {
             open: true,

@@ -215,8 +215,8 @@ fn short_periods(random: &mut Random) -> Vec<Task> {
     }
 }
 
-// Budgets of 1 to 3. A cut to 8 or 16 bits would make two of the periods short.
-fn light(random: &mut Random) -> Task {
+/// Budgets of 1 to 3. A cut to 8 or 16 bits would make two of the periods short.
+pub fn light(random: &mut Random) -> Task {
     let period = random.pick(&[40, 60, 256 + 40, 1_000, 65_536 + 40, LONGEST_PERIOD]);
     let deadline = random.between(period / 2, period);
     Task::new(period, random.between(1, 3), deadline)
@@ -299,7 +299,7 @@ fn next(random: &mut Random, machine: &Machine, rates: Rates) -> Option<Call> {
     match random.below(64) {
         roll if roll < release => release_due(random, machine),
         roll if roll < finish => finish_open(random, machine),
-        roll if roll < join => Some(Call::Join(joining(random, machine))),
+        roll if roll < join => Some(Call::Join(joining(random, &machine.table))),
         roll if roll < odd => odd_call(random, machine),
         _ => None,
     }
@@ -351,11 +351,11 @@ fn some_task(random: &mut Random, machine: &Machine, so: fn(&Job) -> bool) -> Op
     (!found.is_empty()).then(|| random.pick(&found))
 }
 
-// A task that may be admitted: light, as one of the table, or any.
-fn joining(random: &mut Random, machine: &Machine) -> Task {
+/// A task that may be admitted: light, as one of the table, or any.
+pub fn joining(random: &mut Random, table: &[Task]) -> Task {
     match random.below(8) {
         0..=3 => light(random),
-        4 => random.pick(&machine.table),
+        4 => random.pick(table),
         5 => heavy(random),
         6 => odd_task(random),
         _ => tables::of_tasks(random, 1)[0],
@@ -385,8 +385,8 @@ fn no_task(random: &mut Random, held: u32) -> u32 {
     random.pick(&[0, held + 1, 33, 64, 256 + 1, 65_536 + 1, u32::MAX, far])
 }
 
-// A task outside 1 ≤ C ≤ D ≤ T ≤ 1,000,000, near or far, or at its edge.
-fn odd_task(random: &mut Random) -> Task {
+/// A task outside 1 ≤ C ≤ D ≤ T ≤ 1,000,000, near or far, or at its edge.
+pub fn odd_task(random: &mut Random) -> Task {
     let Task {
         period,
         budget,

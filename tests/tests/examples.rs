@@ -1,4 +1,5 @@
-//! The tables and scripts of `examples/`. Every expected output is a literal.
+//! The tables, scripts and machines of `examples/`. Every expected output is a
+//! literal.
 
 use std::fs;
 use std::path::Path;
@@ -17,6 +18,11 @@ fn check_table(name: &str, printed: &str) {
 
 fn check_script(name: &str, printed: &str) {
     let output = program::replay_output(&example(name));
+    assert_eq!(String::from_utf8_lossy(&output), printed, "{name}");
+}
+
+fn check_machine(name: &str, printed: &str) {
+    let output = program::probe_output(&example(name));
     assert_eq!(String::from_utf8_lossy(&output), printed, "{name}");
 }
 
@@ -51,9 +57,19 @@ fn scripts() {
     );
 }
 
+// An open job whose gap is below its left: the machine is unsound, and as it was.
+#[test]
+fn machines() {
+    let zeros = "0 0 0 0 0 0 0\n".repeat(31);
+    check_machine(
+        "probe.machine",
+        &format!("REFUSED 0\nMACHINE 1 1\n6 3 5 1 4 2 3\n{zeros}"),
+    );
+}
+
 // Every file of the folder is one of those above.
 #[test]
 fn no_example_is_left_out() {
     let path = Path::new(env!("CARGO_MANIFEST_DIR")).join("../examples");
-    assert_eq!(fs::read_dir(path).expect("the folder").count(), 8);
+    assert_eq!(fs::read_dir(path).expect("the folder").count(), 9);
 }

@@ -12,8 +12,8 @@ use edzl_tests::program::path;
 
 const TABLE: &[u8] = b"DEADLINE PERIOD BUDGET\n4 4 1\n5 6 2\n8 10 6\n";
 
-// The three programs, and what each prints for an empty text and for a text that is too long.
-fn programs() -> [(PathBuf, Vec<u8>, Vec<u8>); 3] {
+// The four programs, and what each prints for an empty text and for one that is too long.
+fn programs() -> [(PathBuf, Vec<u8>, Vec<u8>); 4] {
     [
         (
             path("VERDICT", "verdict"),
@@ -29,6 +29,11 @@ fn programs() -> [(PathBuf, Vec<u8>, Vec<u8>); 3] {
             path("REPLAY", "replay"),
             b"BAD LINE 1\n".to_vec(),
             b"REFUSED 1\n".to_vec(),
+        ),
+        (
+            path("PROBE", "probe"),
+            b"BAD LINE 1\n".to_vec(),
+            b"BAD LINE 1\n".to_vec(),
         ),
     ]
 }
@@ -65,6 +70,15 @@ fn endless_input_is_too_long() {
     }
 }
 
+// A whole machine and call, and then lines without end.
+#[test]
+fn endless_input_after_a_call() {
+    let machine = Path::new(env!("CARGO_MANIFEST_DIR")).join("../examples/probe.machine");
+    let endless = format!("{{ cat \"{}\"; yes; }} |", machine.display());
+    let printed = through_shell(&path("PROBE", "probe"), &endless, "");
+    assert_eq!(printed, b"BAD LINE 35\n");
+}
+
 // The text in pieces of this many bytes, with a pause after each.
 fn in_pieces(program: &Path, text: &[u8], size: usize) -> Vec<u8> {
     let mut child = Command::new(program)
@@ -93,6 +107,13 @@ fn pieces_make_one_text() {
     let script = [b"CORES 2\n", TABLE, b"CALLS\nRELEASE 1\nSLOT 2\n"].concat();
     let replay = in_pieces(&path("REPLAY", "replay"), &script, 5);
     assert_eq!(replay, b"DONE\n1 1 0 1\n");
+    let zeros = "0 0 0 0 0 0 0\n".repeat(31);
+    let text = format!("MACHINE 1 1\n9 2 5 1 5 2 9\n{zeros}SLOT 1\n");
+    let printed = format!("1 0 0 1\nMACHINE 1 1\n9 2 5 1 4 1 8\n{zeros}");
+    for size in [1, 13, 100] {
+        let probe = in_pieces(&path("PROBE", "probe"), text.as_bytes(), size);
+        assert_eq!(probe, printed.as_bytes());
+    }
 }
 
 #[test]

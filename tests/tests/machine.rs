@@ -1,7 +1,9 @@
-//! The simulated machine by itself, on machines made by hand: numbers 0 and 10,
-//! which no list of calls from a start can meet (document 01, "Why a call is
-//! not carried out"), refusals that leave the machine as it was, and precedence
-//! at the limits of left and budget.
+//! The simulated machine by itself, on machines made by hand: number 0, which no
+//! list of calls from a start can meet (document 01, "Why a call is not carried
+//! out", with change 3 of document 02), refusals that leave the machine as it was,
+//! and precedence at the limits of left and budget.
+
+use std::collections::BTreeMap;
 
 use edzl_tests::machine::{Job, Machine};
 use edzl_tests::tasks::{Refusal, Task};
@@ -52,6 +54,10 @@ fn number_0_comes_before_all_others() {
         job(true, 5, 0, 9),
         job(true, 5, 3, 9),
         job(true, 5, 2, 10),
+        job(true, 5, 2, 4),
+        job(true, 5, 2, 0),
+        job(true, 3, 1, 2),
+        job(true, 1, 1, 0),
     ];
     for job in unsound {
         assert_eq!(refusals(&machine(job)), [Some(0); 4], "{job:?}");
@@ -77,10 +83,15 @@ fn number_0_for_what_no_start_takes() {
 fn sound_machines_at_the_limits() {
     let sound = [
         CLOSED,
+        job(false, 0, 0, 1),
         job(false, 0, 0, 9),
         OPEN,
-        job(true, 1, 1, 0),
+        job(true, 1, 1, 1),
+        job(true, 1, 2, 1),
         job(true, 1, 2, 9),
+        job(true, 3, 1, 3),
+        job(true, 3, 1, 4),
+        job(true, 5, 2, 5),
     ];
     for job in sound {
         let expected = [Some(8), Some(8), Some(14), Some(5)];
@@ -159,13 +170,20 @@ fn precedence_of_two_jobs() {
     }
 }
 
-// An open job whose gap is 0 is sound, and number 9 comes before 10.
+// A release of every record from 0 to one above each limit: 616 of them. Sound are
+// 10 closed ones, one of them due, and 2 * (9 + 8 + 7 + 6 + 5) open ones, none due.
 #[test]
-fn number_10_only_on_a_machine_made_by_hand() {
-    let release = |job| machine(job).release(1);
-    assert_eq!(release(job(true, 3, 1, 0)), Err(Refusal::whole(10)));
-    assert_eq!(release(job(true, 3, 1, 1)), Err(Refusal::whole(9)));
-    assert_eq!(release(CLOSED), Ok(()));
+fn releases_of_every_record() {
+    let mut answers = BTreeMap::new();
+    for record in 0..2 * 7 * 4 * 11 {
+        let (open, left) = (record % 2 == 1, record / 2 % 7);
+        let (budget, gap) = (record / 14 % 4, record / 56);
+        let refusal = machine(job(open, left, budget, gap)).release(1).err();
+        let number = refusal.map(|refusal| refusal.number);
+        *answers.entry(number).or_insert(0) += 1;
+    }
+    let expected = [(None, 1), (Some(0), 616 - 10 - 70), (Some(9), 9 + 70)];
+    assert_eq!(answers, BTreeMap::from(expected));
 }
 
 #[test]

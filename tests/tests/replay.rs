@@ -4,21 +4,20 @@
 
 use std::collections::BTreeMap;
 use std::io::{Write, stdout};
-use std::num::NonZero;
 use std::ops::Range;
-use std::thread;
 
 use edzl_tests::machine::Slot;
 use edzl_tests::promise::Kept;
 use edzl_tests::script::{Answer, Call, Script, lines};
 use edzl_tests::tasks::MOST_TASKS;
 use edzl_tests::ties::Ties;
-use edzl_tests::{program, promise, scripts, settings, ties};
+use edzl_tests::{parts, program, promise, scripts, settings, ties};
 
 const SCRIPTS: u64 = 20_000;
 
-// Every kind of answer that can happen, and no other may: number 10 is among
-// the others, because an open job's gap is never 0.
+// Every kind of answer that can happen, and no other may. Among the others are
+// number 0, since calls from a start leave no unsound machine, and number 10, which
+// stays empty: the gap of an open job is above 0, so that 9 refuses its release.
 const KINDS: [&str; 20] = [
     "CALLS BAD LINE",
     "FINISH DONE",
@@ -352,18 +351,10 @@ fn compare(script: &Script, tally: &mut Tally) -> Result<(), String> {
         tally.kept(kept.map_err(|fault| failure(&format!("demand 3 is broken: {fault}")))?);
     }
     if expected != actual {
-        return Err(failure(&first_difference(&expected, &actual)));
+        return Err(failure(&program::first_difference(&expected, &actual)));
     }
     tally.record(script, &answers);
     Ok(())
-}
-
-fn first_difference(expected: &str, actual: &str) -> String {
-    let pairs = expected.lines().zip(actual.lines());
-    let same = pairs.take_while(|(one, other)| one == other).count();
-    let line = |text: &str| text.lines().nth(same).unwrap_or("nothing").to_string();
-    let (expected, actual) = (line(expected), line(actual));
-    format!("answer {}: expected {expected}, printed {actual}", same + 1)
 }
 
 fn compare_all(seed: u64, part: Range<u64>) -> Result<Tally, String> {
@@ -375,29 +366,14 @@ fn compare_all(seed: u64, part: Range<u64>) -> Result<Tally, String> {
     Ok(tally)
 }
 
-// One part of the scripts for each core of the computer.
-fn parts(scripts: u64) -> Vec<Range<u64>> {
-    let threads = thread::available_parallelism().map_or(1, NonZero::get);
-    let threads = u64::try_from(threads).expect("a count of 64 bits");
-    let edge = |part: u64| scripts * part / threads;
-    (0..threads)
-        .map(|part| edge(part)..edge(part + 1))
-        .collect()
-}
-
 #[test]
 fn generated_scripts_through_replay() {
     let seed = settings::number("SEED", settings::SEED);
     let scripts = settings::number("SCRIPTS", SCRIPTS);
     let mut tally = Tally::default();
-    thread::scope(|scope| {
-        let start = |part| scope.spawn(move || compare_all(seed, part));
-        let running: Vec<_> = parts(scripts).into_iter().map(start).collect();
-        for thread in running {
-            let part = thread.join().expect("a comparison that ends");
-            tally.add(part.unwrap_or_else(|failure| panic!("{failure}")));
-        }
-    });
+    for part in parts::in_parts(scripts, |part| compare_all(seed, part)) {
+        tally.add(part.unwrap_or_else(|failure| panic!("{failure}")));
+    }
     tally.report(scripts, seed);
     tally.require(scripts);
 }

@@ -1,0 +1,96 @@
+//! Number 0 clause by clause: everything that makes a machine made by hand unsound
+//! (document 01, "Why a call is not carried out", with change 3 of document 02), and
+//! by how much. A second statement beside the simulated machine's own.
+
+use crate::probe::{Entry, HandMade};
+use crate::tasks::{LONGEST_PERIOD, MOST_CORES, MOST_TASKS};
+
+/// What can be wrong with the count and with m.
+pub const WHOLE: [&str; 4] = ["count 0", "count above 32", "m 0", "m above 16"];
+
+/// What can be wrong with one task of the table.
+pub const OF_A_TASK: [&str; 12] = [
+    "C 0",
+    "C above D",
+    "D above T",
+    "T above 1,000,000",
+    "gap above T",
+    "closed with left",
+    "closed with budget",
+    "open with left 0",
+    "open with left above D",
+    "open with budget 0",
+    "open with budget above C",
+    "open with gap below left",
+];
+
+/// One of these, how far the number is from its limit, and the task's number, or 0
+/// for the count and m.
+#[derive(Clone, Copy, Debug, PartialEq, Eq)]
+pub struct Fault {
+    pub clause: &'static str,
+    pub beyond: u32,
+    pub task: u32,
+}
+
+/// Every fault of a machine; a sound one has none. A count above 32 takes in all
+/// the entries that there are.
+pub fn faults(machine: &HandMade) -> Vec<Fault> {
+    let mut faults = list(0, &WHOLE, &of_the_whole(machine));
+    let tasks = machine.tasks().unwrap_or(MOST_TASKS);
+    for (task, entry) in (1..).zip(&machine.entries[..tasks]) {
+        faults.extend(list(task, &OF_A_TASK, &of_a_task(entry)));
+    }
+    faults
+}
+
+// The clauses that fail, from how far each number is beyond its limit.
+fn list(task: u32, clauses: &[&'static str], beyond: &[u32]) -> Vec<Fault> {
+    let clauses = clauses.iter().zip(beyond);
+    let failing = clauses.filter(|(_, beyond)| **beyond > 0);
+    let fault = |(clause, beyond): (&&'static str, &u32)| Fault {
+        clause,
+        beyond: *beyond,
+        task,
+    };
+    failing.map(fault).collect()
+}
+
+// How far the count and m are beyond their limits, 0 where they are not.
+fn of_the_whole(machine: &HandMade) -> [u32; 4] {
+    let most_tasks = u32::try_from(MOST_TASKS).expect("a count of 32 bits");
+    [
+        below(machine.count, 1),
+        above(machine.count, most_tasks),
+        below(machine.cores, 1),
+        above(machine.cores, MOST_CORES),
+    ]
+}
+
+// The same of a task's numbers and its job's, which is open or closed.
+fn of_a_task(entry: &Entry) -> [u32; 12] {
+    let (task, job) = (&entry.task, &entry.job);
+    let (open, closed) = (u32::from(job.open), u32::from(!job.open));
+    [
+        below(task.budget, 1),
+        above(task.budget, task.deadline),
+        above(task.deadline, task.period),
+        above(task.period, LONGEST_PERIOD),
+        above(job.gap, task.period),
+        closed * above(job.left, 0),
+        closed * above(job.budget, 0),
+        open * below(job.left, 1),
+        open * above(job.left, task.deadline),
+        open * below(job.budget, 1),
+        open * above(job.budget, task.budget),
+        open * below(job.gap, job.left),
+    ]
+}
+
+fn above(number: u32, limit: u32) -> u32 {
+    number.saturating_sub(limit)
+}
+
+fn below(number: u32, limit: u32) -> u32 {
+    limit.saturating_sub(number)
+}

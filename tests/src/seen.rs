@@ -1,0 +1,362 @@
+//! What a comparison of machines made by hand should meet: events about the gap of
+//! an open task (document 02, change 3), the limits of sound machines, jobs that no
+//! list of calls leaves, and the entries past the count.
+
+use crate::faults::{Fault, faults};
+use crate::machine::{Job, Slot};
+use crate::probe::{Entry, HandMade, Probe};
+use crate::script::{Answer, Call};
+use crate::tasks::{MOST_TASKS, Task};
+use crate::window::judge;
+
+pub const FINISH: &str = "FINISH";
+pub const JOIN: &str = "JOIN";
+pub const RELEASE: &str = "RELEASE";
+pub const SLOT: &str = "SLOT";
+
+/// One call on a machine made by hand, as the simulated machine carries it out.
+pub struct Seen {
+    pub before: HandMade,
+    pub call: Call,
+    pub answer: Answer,
+    pub after: HandMade,
+    pub faults: Vec<Fault>,
+}
+
+/// An event, and whether a call is one.
+pub type Event = (&'static str, fn(&Seen) -> bool);
+
+// The gap of an open task against its left and against nothing else (change 3).
+const GAPS: [Event; 18] = [
+    ("sound, open, gap = left, D = T", |seen| {
+        seen.sound_open(|task, job| job.gap == job.left && task.deadline == task.period)
+    }),
+    ("sound, open, gap = left, D below T", |seen| {
+        seen.sound_open(|task, job| job.gap == job.left && task.deadline < task.period)
+    }),
+    ("sound, open, gap = left + 1", |seen| {
+        seen.sound_open(|_, job| job.gap == job.left + 1)
+    }),
+    (
+        "sound, open, gap above left, below left + (T − D)",
+        |seen| seen.sound_open(|task, job| job.left < job.gap && job.gap < reached_gap(task, job)),
+    ),
+    ("sound, open, gap = left + (T − D) above left", |seen| {
+        seen.sound_open(|task, job| job.left < job.gap && job.gap == reached_gap(task, job))
+    }),
+    ("sound, open, gap above left + (T − D)", |seen| {
+        seen.sound_open(|task, job| job.gap > reached_gap(task, job))
+    }),
+    ("sound, open, gap below D", |seen| {
+        seen.sound_open(|task, job| job.gap < task.deadline)
+    }),
+    ("sound, open, gap below budget", |seen| {
+        seen.sound_open(|_, job| job.gap < job.budget)
+    }),
+    ("sound, closed, gap 0", |seen| {
+        seen.sound_closed(|_, job| job.gap == 0)
+    }),
+    ("sound, closed, gap above 0 and below D", |seen| {
+        seen.sound_closed(|task, job| 0 < job.gap && job.gap < task.deadline)
+    }),
+    ("sound, closed, gap above D", |seen| {
+        seen.sound_closed(|task, job| job.gap > task.deadline)
+    }),
+    ("0 for gap = left − 1 above 0 alone", |seen| {
+        seen.gap_below_left(|_, job| job.gap > 0 && job.gap == job.left - 1)
+    }),
+    ("0 for gap 0 and left 1 alone", |seen| {
+        seen.gap_below_left(|_, job| job.gap == 0 && job.left == 1)
+    }),
+    ("0 for gap below left − 1 and above 0 alone", |seen| {
+        seen.gap_below_left(|_, job| job.gap > 0 && job.gap < job.left - 1)
+    }),
+    ("0 for gap below left alone, not below budget", |seen| {
+        seen.gap_below_left(|_, job| job.gap >= job.budget)
+    }),
+    ("0 for gap below left alone, not below C", |seen| {
+        seen.gap_below_left(|task, job| job.gap >= task.budget)
+    }),
+    ("0 for gap below left alone, D = T", |seen| {
+        seen.gap_below_left(|task, _| task.deadline == task.period)
+    }),
+    ("0 for gap below left alone, another task named", |seen| {
+        let named = seen.named().map(|entry| entry.job);
+        let sound = named.is_some_and(|job| !job.open || job.gap >= job.left);
+        sound && seen.gap_below_left(|_, _| true)
+    }),
+];
+
+// Sound numbers at the other limits, each in an accepted call.
+const LIMITS: [Event; 14] = [
+    ("accepted, count 1", |seen| {
+        seen.accepted() && seen.before.count == 1
+    }),
+    ("accepted, count 32", |seen| {
+        seen.accepted() && seen.before.count == 32
+    }),
+    ("accepted, m 1", |seen| {
+        seen.accepted() && seen.before.cores == 1
+    }),
+    ("accepted, m 16", |seen| {
+        seen.accepted() && seen.before.cores == 16
+    }),
+    ("accepted, C 1 below D", |seen| {
+        seen.accepted_task(|task, _| task.budget == 1 && 1 < task.deadline)
+    }),
+    ("accepted, C = D", |seen| {
+        seen.accepted_task(|task, _| task.budget == task.deadline)
+    }),
+    ("accepted, D = T", |seen| {
+        seen.accepted_task(|task, _| task.deadline == task.period)
+    }),
+    ("accepted, T 1,000,000", |seen| {
+        seen.accepted_task(|task, _| task.period == 1_000_000)
+    }),
+    ("accepted, open, gap = T", |seen| {
+        seen.accepted_task(|task, job| job.open && job.gap == task.period)
+    }),
+    ("accepted, closed, gap = T", |seen| {
+        seen.accepted_task(|task, job| !job.open && job.gap == task.period)
+    }),
+    ("accepted, left 1", |seen| {
+        seen.accepted_task(|_, job| job.left == 1)
+    }),
+    ("accepted, left = D", |seen| {
+        seen.accepted_task(|task, job| job.left == task.deadline)
+    }),
+    ("accepted, budget 1", |seen| {
+        seen.accepted_task(|_, job| job.budget == 1)
+    }),
+    ("accepted, budget = C", |seen| {
+        seen.accepted_task(|task, job| job.budget == task.budget)
+    }),
+];
+
+// Releases, finishes and slots, also of jobs that no list of calls leaves.
+const JOBS: [Event; 15] = [
+    ("release of an open job, refused by 9", |seen| {
+        seen.of_open_job() && seen.is(RELEASE, Answer::Refused(9))
+    }),
+    (
+        "release of an open job of gap = left, refused by 9",
+        |seen| {
+            let job = seen.named().map(|entry| entry.job);
+            let at_left = job.is_some_and(|job| job.open && job.gap == job.left);
+            at_left && seen.is(RELEASE, Answer::Refused(9))
+        },
+    ),
+    ("release of an open job of gap 0, refused by 0", |seen| {
+        let gap = seen.named().map(|entry| entry.job.gap);
+        let alone = seen.alone().is_some();
+        alone && gap == Some(0) && seen.of_open_job() && seen.is(RELEASE, Answer::Refused(0))
+    }),
+    ("release of a closed job, refused by 9", |seen| {
+        !seen.of_open_job() && seen.is(RELEASE, Answer::Refused(9))
+    }),
+    ("finish of a job that no call leaves", |seen| {
+        let so = |entry: &Entry| entry.job.gap != reached_gap(&entry.task, &entry.job);
+        seen.is(FINISH, Answer::Done) && seen.named().is_some_and(so)
+    }),
+    ("slot of nobody", |seen| seen.slot(|slot| slot.runners == 0)),
+    ("slot of 16 runners", |seen| {
+        seen.slot(|slot| slot.runners == 16)
+    }),
+    ("slot in which the 32nd task runs", |seen| {
+        seen.slot(|slot| slot.ran >> 31 == 1)
+    }),
+    ("slot of k above m", |seen| {
+        let above = matches!(seen.call, Call::Slot(k) if k > seen.before.cores);
+        above && seen.accepted()
+    }),
+    ("slot of k = m below the open tasks", |seen| {
+        let open = seen.table().iter().filter(|entry| entry.job.open).count();
+        let m = usize::try_from(seen.before.cores).expect("a number of 32 bits");
+        seen.slot(|_| true) && seen.call == Call::Slot(seen.before.cores) && m < open
+    }),
+    ("slot that finishes a job", |seen| {
+        seen.slot(|slot| slot.finished != 0)
+    }),
+    ("slot with a late job that ran", |seen| {
+        seen.slot(|slot| slot.late & slot.ran != 0)
+    }),
+    ("slot with a late job that waited", |seen| {
+        seen.slot(|slot| slot.late & !slot.ran != 0)
+    }),
+    ("slot with finished and late jobs", |seen| {
+        seen.slot(|slot| slot.finished != 0 && slot.late != 0)
+    }),
+    ("slot with a late job, table admitted", |seen| {
+        seen.slot(|slot| slot.late != 0) && seen.is_admitted()
+    }),
+];
+
+// Entries past the count: no call reads them, and only a join writes its own.
+const PAST: [Event; 14] = [
+    ("release, entries past the count not 0", |seen| {
+        seen.is(RELEASE, Answer::Done) && seen.past(|entry| *entry != Entry::ZERO)
+    }),
+    ("finish, entries past the count not 0", |seen| {
+        seen.is(FINISH, Answer::Done) && seen.past(|entry| *entry != Entry::ZERO)
+    }),
+    ("slot, a job open past the count", |seen| {
+        seen.slot(|_| true) && seen.past(|entry| entry.job.open)
+    }),
+    ("slot, a gap past the count", |seen| {
+        seen.slot(|_| true) && seen.past(|entry| entry.job.gap > 0)
+    }),
+    ("sound, an unsound entry past the count", |seen| {
+        seen.faults.is_empty() && seen.past(|entry| !entry.task.fits())
+    }),
+    ("0, entries past the count not 0", |seen| {
+        !seen.faults.is_empty() && seen.past(|entry| *entry != Entry::ZERO)
+    }),
+    ("release of a task due past the count, refused", |seen| {
+        let due = |entry: &Entry| entry.task.fits() && !entry.job.open && entry.job.gap == 0;
+        seen.is(RELEASE, Answer::Refused(8)) && seen.next_is(due)
+    }),
+    ("finish of a job open past the count, refused", |seen| {
+        seen.is(FINISH, Answer::Refused(8)) && seen.next_is(|entry| entry.job.open)
+    }),
+    ("join over an entry of zeros", |seen| {
+        seen.joined(|own, _| *own == Entry::ZERO)
+    }),
+    ("join over a closed entry with a gap", |seen| {
+        seen.joined(|own, _| !own.job.open && own.job.gap > 0)
+    }),
+    ("join over an open entry", |seen| {
+        seen.joined(|own, _| own.job.open)
+    }),
+    ("join before entries that are not 0", |seen| {
+        seen.joined(|_, rest| rest.iter().any(|entry| *entry != Entry::ZERO))
+    }),
+    ("join to 31 tasks", |seen| {
+        seen.joined(|_, rest| rest.is_empty()) && seen.after.count == 32
+    }),
+    ("join to 31 tasks, refused by 13", |seen| {
+        seen.before.count == 31 && seen.is(JOIN, Answer::Refused(13))
+    }),
+];
+
+// The gap that an open job has after any list of calls from a start.
+fn reached_gap(task: &Task, job: &Job) -> u32 {
+    job.left + (task.period - task.deadline)
+}
+
+impl Seen {
+    pub fn new(probe: &Probe) -> Seen {
+        let (answer, after) = probe.play();
+        Seen {
+            before: probe.machine.clone(),
+            call: probe.call,
+            answer,
+            after,
+            faults: faults(&probe.machine),
+        }
+    }
+
+    /// The first word of the call's line.
+    pub fn name(&self) -> &'static str {
+        match self.call {
+            Call::Finish(_) => FINISH,
+            Call::Join(_) => JOIN,
+            Call::Release(_) => RELEASE,
+            Call::Slot(_) => SLOT,
+            Call::Bad(line) => panic!("no call: {line}"),
+        }
+    }
+
+    fn accepted(&self) -> bool {
+        !matches!(self.answer, Answer::Refused(_))
+    }
+
+    // The entries of the table; all of them if the count is above 32.
+    fn table(&self) -> &[Entry] {
+        &self.before.entries[..self.before.tasks().unwrap_or(MOST_TASKS)]
+    }
+
+    fn has_task(&self, so: impl Fn(&Task, &Job) -> bool) -> bool {
+        let mut entries = self.table().iter();
+        entries.any(|entry| so(&entry.task, &entry.job))
+    }
+
+    fn sound_open(&self, so: fn(&Task, &Job) -> bool) -> bool {
+        self.faults.is_empty() && self.has_task(|task, job| job.open && so(task, job))
+    }
+
+    fn sound_closed(&self, so: fn(&Task, &Job) -> bool) -> bool {
+        self.faults.is_empty() && self.has_task(|task, job| !job.open && so(task, job))
+    }
+
+    fn accepted_task(&self, so: fn(&Task, &Job) -> bool) -> bool {
+        self.accepted() && self.has_task(so)
+    }
+
+    /// The fault of the machine, if it has just one.
+    pub fn alone(&self) -> Option<&Fault> {
+        match self.faults.as_slice() {
+            [fault] => Some(fault),
+            _ => None,
+        }
+    }
+
+    // Nothing but a gap below left is wrong, of a task that is so.
+    fn gap_below_left(&self, so: fn(&Task, &Job) -> bool) -> bool {
+        let alone = self.alone();
+        alone.is_some_and(|fault| fault.clause == "open with gap below left")
+            && self.has_task(|task, job| job.open && job.gap < job.left && so(task, job))
+    }
+
+    // The entry of the task that a release or finish names.
+    fn named(&self) -> Option<&Entry> {
+        let (Call::Release(number) | Call::Finish(number)) = self.call else {
+            return None;
+        };
+        let number = usize::try_from(number).expect("a number of 32 bits");
+        self.table().get(number.checked_sub(1)?)
+    }
+
+    fn of_open_job(&self) -> bool {
+        self.named().is_some_and(|entry| entry.job.open)
+    }
+
+    // A call of this name with this answer.
+    fn is(&self, call: &str, answer: Answer) -> bool {
+        self.name() == call && self.answer == answer
+    }
+
+    fn slot(&self, so: fn(&Slot) -> bool) -> bool {
+        matches!(&self.answer, Answer::Ran(slot) if so(slot))
+    }
+
+    fn is_admitted(&self) -> bool {
+        let table: Vec<Task> = self.table().iter().map(|entry| entry.task).collect();
+        judge(&table, self.before.cores).is_ok_and(|verdict| verdict.admitted)
+    }
+
+    fn past(&self, so: fn(&Entry) -> bool) -> bool {
+        self.before.entries[self.table().len()..].iter().any(so)
+    }
+
+    // The call names the first task past the count, whose entry is so.
+    fn next_is(&self, so: fn(&Entry) -> bool) -> bool {
+        let next = self.before.entries.get(self.table().len());
+        let (Call::Release(number) | Call::Finish(number)) = self.call else {
+            return false;
+        };
+        number == self.before.count + 1 && next.is_some_and(so)
+    }
+
+    // An accepted join, by the entry that it wrote over and those after it.
+    fn joined(&self, so: fn(&Entry, &[Entry]) -> bool) -> bool {
+        let past = &self.before.entries[self.table().len()..];
+        let split = past.split_first();
+        self.is(JOIN, Answer::Done) && split.is_some_and(|(own, rest)| so(own, rest))
+    }
+}
+
+/// Every event that a comparison should meet.
+pub fn events() -> impl Iterator<Item = &'static Event> {
+    let lists: [&'static [Event]; 4] = [&GAPS, &LIMITS, &JOBS, &PAST];
+    lists.into_iter().flatten()
+}
