@@ -3,52 +3,47 @@
 use Prim.Native.Nat.{ℕ, suc, _+_, _-_, _≤_, _<_}
 use native.Mathlib.Numerals.{add-one}
 use native.Mathlib.Omega.{arith}
-use mathlib.Core.Path.{_≡_, refl, sym, ap, _∙_}
-use mathlib.Core.Bool.{true, false, cond}
+use mathlib.Core.Path.{_≡_, refl, sym, _∙_}
+use mathlib.Core.Bool.{true, false}
 use mathlib.Core.List.{List}
-use borrow.Author.Tests.{ne-eqb}
-use lib.Dec.{eqb}
 use lib.ListN.{length, drop, length-drop}
 use lib.Seq.{drop-drop}
 use Rattle.laws.proofs.CaseSplits.{by-cond, clash}
-use Rattle.laws.proofs.Booleans.{and-left}
 use Rattle.laws.proofs.Parts.{from, from-drop}
-use Rattle.text.specs.Lines.{lineEnd, has, before, after}
+use Rattle.text.specs.Lines.{lineEnd, before, after}
 use Rattle.text.proofs.Split.{here}
 use Rattle.tasks.specs.Limits.{maxTasks}
 use Rattle.tasks.specs.declared.task.Task.{Task}
 use Rattle.job.specs.declared.job.Job.{Job}
 use Rattle.machine.specs.declared.machine.Machine.{Machine}
-use Rattle.script.specs.Output.{badLine}
-use Rattle.probe.specs.Input.{begins, isEntryLine, taskOf, jobOf, withEntry, entryOf, lastLine}
-use Rattle.probe.specs.Printed.{callRead, entriesRead, EntriesAre}
+use Rattle.probe.specs.Input.{firstIs, isEntryLine, taskOf, jobOf, withEntry, entryOf, lastLine}
+use Rattle.probe.specs.Printed.{callRead, entriesRead}
+use Rattle.probe.specs.declared.input.Asked.{Asked}
+use Rattle.probe.specs.declared.input.Asked.the-variants as Asked
 use Rattle.probe.specs.declared.input.EntryLine.the-variants.{Read, Bad}
+use Rattle.probe.proofs.InputLaws.{is-ended}
 
 -- what the line of an entry says of the text that begins with it
 record Entered (s : List ℕ) (t : Task) (j : Job) (n : ℕ) : Type 0 where
-  is : begins isEntryLine s ≡ true
+  is : firstIs isEntryLine s ≡ true
   task : taskOf (before lineEnd s) ≡ t
   job : jobOf (before lineEnd s) ≡ j
   within : n ≤ length s
   rest : after lineEnd s ≡ drop n s
 
-ended : (s : List ℕ) → begins isEntryLine s ≡ true → has lineEnd s ≡ true
-unfolding begins
-ended s b = and-left (has lineEnd s) (isEntryLine (before lineEnd s)) b
-
 entered : (s : List ℕ) (t : Task) (j : Job) (n : ℕ) → entryOf s ≡ Read t j n → Entered s t j n
 unfolding entryOf
 entered s t j n =
-    by-cond (λ r. r ≡ Read t j n → Entered s t j n) (begins isEntryLine s)
+    by-cond (λ r. r ≡ Read t j n → Entered s t j n) (firstIs isEntryLine s)
     (λ b e.
-    let h = here lineEnd s (ended s b) in
+    let h = here lineEnd s (is-ended isEntryLine s b) in
     let q : length (before lineEnd s) + 1 ≡ n = cc in
     record { is = b; task = cc; job = cc; within = omega (arith, h .within); rest = rw (← q) (sym (h .rest)) })
     (λ b e. clash cc)
 
-refused : (s : List ℕ) → entryOf s ≡ Bad → begins isEntryLine s ≡ false
+refused : (s : List ℕ) → entryOf s ≡ Bad → firstIs isEntryLine s ≡ false
 unfolding entryOf
-refused s = by-cond (λ r. r ≡ Bad → begins isEntryLine s ≡ false) (begins isEntryLine s) (λ b e. clash cc) (λ b e. b)
+refused s = by-cond (λ r. r ≡ Bad → firstIs isEntryLine s ≡ false) (firstIs isEntryLine s) (λ b e. clash cc) (λ b e. b)
 
 -- between two lines: the first i entries were read from the first `place` bytes of the text
 pub record Filling (m : Machine) (s : List ℕ) (m' : Machine) (place i : ℕ) : Type 0 where
@@ -60,22 +55,20 @@ pub fill-none : (m : Machine) (s : List ℕ) → Filling m s m 0 0
 fill-none m s = record { few = omega arith; within = omega arith; left = refl }
 
 module _ (m : Machine) (s : List ℕ) (m' : Machine) (place i : ℕ) (p : Filling m s m' place i) where
-  -- all entries were read
-  pub filled : maxTasks ≤ i → EntriesAre m s (record { machine = m'; bad = 0; length = place })
+  -- all entries were read, and the line of the call follows
+  pub filled : maxTasks ≤ i → (a : Asked) → a ≡ lastLine (from s place) → entriesRead m 0 maxTasks s ≡ callRead m' a
   unfolding entriesRead
-  filled h =
+  filled h a e =
       let z : maxTasks - i ≡ 0 = omega arith in
-      record { within = p .within; are = p .left ∙ rw z }
+      p .left ∙ rw (z, e, from-drop s place)
 
   module _ (h : i < maxTasks) where
     another : maxTasks - i ≡ suc (maxTasks - (i + 1))
     another = omega arith
 
-    pub no-entry : entryOf (from s place) ≡ Bad → EntriesAre m s (record { machine = m'; bad = i + 2; length = place })
-    unfolding entriesRead
-    no-entry b =
-        let f = refused (drop place s) (rw (from-drop s place) at b) in
-        record { within = p .within; are = p .left ∙ rw (another, f, ne-eqb (i + 2) 0 (λ e. omega arith)) }
+    pub no-entry : entryOf (from s place) ≡ Bad → entriesRead m 0 maxTasks s ≡ callRead m' (Asked.Bad (i + 2))
+    unfolding entriesRead callRead
+    no-entry b = p .left ∙ rw (another, refused (drop place s) (rw (from-drop s place) at b))
 
     module _ (t : Task) (j : Job) (n : ℕ) (e : entryOf (from s place) ≡ Read t j n) where
       entry : Entered (drop place s) t j n

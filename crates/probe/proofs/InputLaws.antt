@@ -1,16 +1,16 @@
--- What the first line of a text says, by what was found of it. Others cite, of the line of the machine: `no-machine`, `no-word`, `no-pair` and
--- `machine-read`; of that of an entry: `no-entry`, `no-seven`, `no-flag` and `entry-read`; of that of the call: `no-line`, `no-call`, `more-follows` and
--- `call-read`.
+-- What the first line of a text says, by what was found of it. Others cite `is-ended`, and, of the machine's line: `no-machine`, `no-word`, `no-pair`
+-- and `machine-read`; of an entry's: `no-entry`, `no-seven`, `no-flag` and `entry-read`; of the call's: `no-line`, `no-call`, `more-follows`, `call-read`.
 use Prim.Native.Nat.{ℕ, _+_, _≤_, _<_}
 use native.Mathlib.Omega.{arith}
 use mathlib.Core.Path.{_≡_, refl, sym, ap, _∙_}
-use mathlib.Core.Bool.{Bool, true, false, _&&_, and-false}
+use mathlib.Core.Bool.{Bool, true, false}
 use mathlib.Core.List.{List}
 use borrow.Author.Tests.{le-leb, lt-leb}
-use lib.Dec.{eqb, leb}
-use lib.ListN.{length, getD, take, drop}
+use lib.Dec.{eqb}
+use lib.ListN.{length, getD, take}
+use Rattle.laws.proofs.Booleans.{and-left}
 use Rattle.laws.proofs.Parts.{from, past, from-drop, from-length}
-use Rattle.text.specs.Lines.{lineEnd, has, before, after, isEmpty, field}
+use Rattle.text.specs.Lines.{lineEnd, has, before, field}
 use Rattle.text.specs.Words.{beginsWith}
 use Rattle.text.specs.Number.{decimal}
 use Rattle.text.specs.Fields.{areNumbers, NumbersRead}
@@ -21,10 +21,14 @@ use Rattle.script.specs.Calls.{callOf}
 use Rattle.script.specs.declared.calls.CallLine.the-variants as Line
 use Rattle.machine.specs.declared.call.Call.{Call}
 use Rattle.probe.specs.Words.{machineWord}
-use Rattle.probe.specs.Input.{begins, isMachineLine, countOf, coresOf, isEntryLine, taskOf, jobOf, machineLine, entryOf, onlyCall, lastLine}
-use Rattle.probe.specs.declared.input.MachineLine.the-variants as Machine
+use Rattle.probe.specs.Input.{firstIs, isMachineLine, countOf, coresOf, isEntryLine, taskOf, jobOf, firstLine, entryOf, onlyCall, lastLine}
+use Rattle.probe.specs.declared.input.FirstLine.the-variants as First
 use Rattle.probe.specs.declared.input.EntryLine.the-variants as Entry
-use Rattle.probe.specs.declared.input.LastLine.the-variants as Last
+use Rattle.probe.specs.declared.input.Asked.the-variants as Asked
+
+pub is-ended : (must : List ℕ → Bool) (s : List ℕ) → firstIs must s ≡ true → has lineEnd s ≡ true
+unfolding firstIs
+is-ended must s b = and-left (has lineEnd s) (must (before lineEnd s)) b
 
 module _ (s : List ℕ) (k : ℕ) (e : k ≡ length (before lineEnd s)) where
   -- the line is not ended
@@ -32,15 +36,15 @@ module _ (s : List ℕ) (k : ℕ) (e : k ≡ length (before lineEnd s)) where
     unended : has lineEnd s ≡ false
     unended = hasnt-of lineEnd s (rw e at h)
 
-    pub no-machine : Machine.Bad ≡ machineLine s
-    unfolding machineLine begins
+    pub no-machine : First.Bad ≡ firstLine s
+    unfolding firstLine firstIs
     no-machine = rw unended
 
     pub no-entry : Entry.Bad ≡ entryOf s
-    unfolding entryOf begins
+    unfolding entryOf firstIs
     no-entry = rw unended
 
-    pub no-line : Last.Bad 34 ≡ lastLine s
+    pub no-line : Asked.Bad 34 ≡ lastLine s
     unfolding lastLine
     no-line = rw unended
 
@@ -49,25 +53,25 @@ module _ (s : List ℕ) (k : ℕ) (e : k ≡ length (before lineEnd s)) where
     line : Cut lineEnd s k
     line = cut lineEnd s k e h
 
-    pub no-word : beginsWith machineWord (take k s) ≡ false → Machine.Bad ≡ machineLine s
-    unfolding machineLine begins isMachineLine
+    pub no-word : beginsWith machineWord (take k s) ≡ false → First.Bad ≡ firstLine s
+    unfolding firstLine firstIs isMachineLine
     no-word w = rw (line .is, ← line .front, w)
 
     module _ (w : beginsWith machineWord (take k s) ≡ true) (a : List ℕ) where
-      pub no-pair : areNumbers maxDigits maxNumber 2 (from (take k s) 8) ≡ false → Machine.Bad ≡ machineLine s
-      unfolding machineLine begins isMachineLine
+      pub no-pair : areNumbers maxDigits maxNumber 2 (from (take k s) 8) ≡ false → First.Bad ≡ firstLine s
+      unfolding firstLine firstIs isMachineLine
       no-pair n = rw (line .is, ← line .front, w, rw (from-drop (take k s) 8) at n)
 
       pub machine-read :
-          length a ≡ 2 → NumbersRead maxDigits maxNumber (from (take k s) 8) a true → Machine.Read (getD a 0 0) (getD a 1 0) (k + 1) ≡ machineLine s
-      unfolding machineLine begins isMachineLine countOf coresOf
+          length a ≡ 2 → NumbersRead maxDigits maxNumber (from (take k s) 8) a true → First.Read (getD a 0 0) (getD a 1 0) (k + 1) ≡ firstLine s
+      unfolding firstLine firstIs isMachineLine countOf coresOf
       machine-read l n =
           let f = from-drop (take k s) 8 in
           rw
           (line .is, ← line .front, w, ← f, ← rw l at (n .is), ← n .each refl 0 (omega arith), ← n .each refl 1 (omega arith), ap length (line .front) ∙ sym e)
 
     pub no-seven : areNumbers maxDigits maxNumber 7 (take k s) ≡ false → Entry.Bad ≡ entryOf s
-    unfolding entryOf begins isEntryLine
+    unfolding entryOf firstIs isEntryLine
     no-seven n = rw (line .is, ← line .front, n)
 
     module _ (a : List ℕ) (l : length a ≡ 7) (n : NumbersRead maxDigits maxNumber (take k s) a true) where
@@ -75,7 +79,7 @@ module _ (s : List ℕ) (k : ℕ) (e : k ≡ length (before lineEnd s)) where
       number-at i h = n .each refl i (omega arith)
 
       pub no-flag : 1 < getD a 3 0 → Entry.Bad ≡ entryOf s
-      unfolding entryOf begins isEntryLine
+      unfolding entryOf firstIs isEntryLine
       no-flag o = rw (line .is, ← line .front, ← rw l at (n .is), ← number-at 3 (omega arith), lt-leb (getD a 3 0) 1 o)
 
       pub entry-read :
@@ -84,21 +88,21 @@ module _ (s : List ℕ) (k : ℕ) (e : k ≡ length (before lineEnd s)) where
           (record { «open» = eqb (getD a 3 0) 1; left = getD a 4 0; budget = getD a 5 0; gap = getD a 6 0 })
           (k + 1)
           ≡ entryOf s
-      unfolding entryOf begins isEntryLine taskOf jobOf
+      unfolding entryOf firstIs isEntryLine taskOf jobOf
       entry-read o =
           let is = number-at in
           rw
           (line .is, ← line .front, ← rw l at (n .is), ← is 0 (omega arith), ← is 1 (omega arith), ← is 2 (omega arith), ← is 3 (omega arith), ← is 4 (omega arith), ← is 5 (omega arith), ← is 6 (omega arith), le-leb (getD a 3 0) 1 o, ap length (line .front) ∙ sym e)
 
-    pub no-call : callOf (take k s) ≡ Line.Bad → Last.Bad 34 ≡ lastLine s
+    pub no-call : callOf (take k s) ≡ Line.Bad → Asked.Bad 34 ≡ lastLine s
     unfolding lastLine onlyCall
     no-call c = rw (line .is, ← line .front, c)
 
     module _ (call : Call) (c : callOf (take k s) ≡ Line.Read call) where
-      pub more-follows : k + 1 < length s → Last.Bad 35 ≡ lastLine s
+      pub more-follows : k + 1 < length s → Asked.Bad 35 ≡ lastLine s
       unfolding lastLine onlyCall
       more-follows m = rw (line .is, ← line .front, c, ← line .rest, some-bytes (past s k) (omega (arith, from-length s (k + 1))))
 
-      pub call-read : length s ≤ k + 1 → Last.Read call ≡ lastLine s
+      pub call-read : length s ≤ k + 1 → Asked.Read call ≡ lastLine s
       unfolding lastLine onlyCall
       call-read m = rw (line .is, ← line .front, c, ← line .rest, no-bytes (past s k) (omega (arith, from-length s (k + 1))))

@@ -2,3 +2,4 @@ pub mod InputLaws
 pub mod Filling
 pub mod Showing
 pub mod PrintedLaws
+pub mod ExamplesHold

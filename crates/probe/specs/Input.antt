@@ -20,16 +20,16 @@ use Rattle.script.specs.Calls.{callOf}
 use Rattle.script.specs.declared.calls.CallLine.{CallLine}
 use Rattle.script.specs.declared.calls.CallLine.the-variants as Line
 use Rattle.probe.specs.Words.{machineWord}
-use Rattle.probe.specs.declared.input.MachineLine.{MachineLine}
-use Rattle.probe.specs.declared.input.MachineLine.the-variants as Machine
+use Rattle.probe.specs.declared.input.FirstLine.{FirstLine}
+use Rattle.probe.specs.declared.input.FirstLine.the-variants as First
 use Rattle.probe.specs.declared.input.EntryLine.{EntryLine}
 use Rattle.probe.specs.declared.input.EntryLine.the-variants as Entry
-use Rattle.probe.specs.declared.input.LastLine.{LastLine}
-use Rattle.probe.specs.declared.input.LastLine.the-variants as Last
+use Rattle.probe.specs.declared.input.Asked.{Asked}
+use Rattle.probe.specs.declared.input.Asked.the-variants as Asked
 
 -- whether the first line of a text is ended and is what it must be: "each line, the last one too, ends with byte 10"
-unfoldable pub begins : (must : List ℕ → Bool) → List ℕ → Bool
-begins must s = has lineEnd s && must (before lineEnd s)
+unfoldable pub firstIs : (must : List ℕ → Bool) → List ℕ → Bool
+firstIs must s = has lineEnd s && must (before lineEnd s)
 
 -- "`MACHINE count cores`", where "count and cores are such numbers"
 unfoldable pub isMachineLine : List ℕ → Bool
@@ -65,18 +65,18 @@ withEntry m i t j =
     record { table = record { count = m .table .count; tasks = set (m .table .tasks) i t }; cores = m .cores; jobs = set (m .jobs) i j }
 
 -- what the first line of a text says, and how many bytes it has with its byte 10
-unfoldable pub machineLine : List ℕ → MachineLine
-machineLine s =
-    let l = before lineEnd s in cond (begins isMachineLine s) (Machine.Read (countOf l) (coresOf l) (length l + 1)) Machine.Bad
+unfoldable pub firstLine : List ℕ → FirstLine
+firstLine s =
+    let l = before lineEnd s in cond (firstIs isMachineLine s) (First.Read (countOf l) (coresOf l) (length l + 1)) First.Bad
 
 unfoldable pub entryOf : List ℕ → EntryLine
-entryOf s = let l = before lineEnd s in cond (begins isEntryLine s) (Entry.Read (taskOf l) (jobOf l) (length l + 1)) Entry.Bad
+entryOf s = let l = before lineEnd s in cond (firstIs isEntryLine s) (Entry.Read (taskOf l) (jobOf l) (length l + 1)) Entry.Bad
 
 -- the call of line 34, after which nothing may follow: "after 34 good lines anything that follows is line 35"
-unfoldable pub onlyCall : CallLine → (following : List ℕ) → LastLine
-onlyCall (Line.Read call) following = cond (isEmpty following) (Last.Read call) (Last.Bad 35)
-onlyCall Line.Bad following = Last.Bad 34
+unfoldable pub onlyCall : CallLine → (following : List ℕ) → Asked
+onlyCall (Line.Read call) following = cond (isEmpty following) (Asked.Read call) (Asked.Bad 35)
+onlyCall Line.Bad following = Asked.Bad 34
 
 -- the same of a text that begins with line 34: it is bad too where it "is not ended, or is missing"
-unfoldable pub lastLine : List ℕ → LastLine
-lastLine s = cond (has lineEnd s) (onlyCall (callOf (before lineEnd s)) (after lineEnd s)) (Last.Bad 34)
+unfoldable pub lastLine : List ℕ → Asked
+lastLine s = cond (has lineEnd s) (onlyCall (callOf (before lineEnd s)) (after lineEnd s)) (Asked.Bad 34)

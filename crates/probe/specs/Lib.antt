@@ -2,3 +2,4 @@ pub mod Words
 pub mod Input
 pub mod Output
 pub mod Printed
+pub mod Examples

@@ -27,10 +27,10 @@ machineLines m = machineWord ++ numbersLine (m .table .count ∷ m .cores ∷ []
 abbrev pub entryRoom : ℕ
 entryRoom = 77
 
--- for those of all entries
+-- for those of all 32 entries
 abbrev pub entriesRoom : ℕ
 entriesRoom = 2464
 
--- for all lines of a machine: the first has its word, a count of 20 digits, cores of ten, and a byte after each
+-- for all lines of a machine: 40 more, as the first has a word of 8, a count of at most 20 digits, cores of ten, and a byte after each
 abbrev pub machineRoom : ℕ
 machineRoom = 2504

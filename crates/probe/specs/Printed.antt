@@ -1,28 +1,24 @@
 -- What is printed for a text (docs/HANDBOOK.md, "Probing one call").
-use Prim.Native.Nat.{ℕ, zero, suc, _+_, _≤_}
-use mathlib.Core.Path.{_≡_}
+use Prim.Native.Nat.{ℕ, zero, suc, _+_}
 use mathlib.Core.List.{List, _++_}
 use mathlib.Core.Bool.{cond}
-use lib.Dec.{eqb}
-use lib.ListN.{length, drop}
 use Rattle.text.specs.Lines.{lineEnd, before, after}
 use Rattle.tasks.specs.Limits.{maxTasks}
 use Rattle.machine.specs.Calls.{step}
 use Rattle.machine.specs.declared.machine.Machine.{Machine}
 use Rattle.machine.specs.declared.call.Call.{Call}
 use Rattle.script.specs.Output.{badLine, answerLine}
-use Rattle.probe.specs.Input.{begins, isMachineLine, countOf, coresOf, blankMachine, isEntryLine, taskOf, jobOf, withEntry, lastLine}
+use Rattle.probe.specs.Input.{firstIs, isMachineLine, countOf, coresOf, blankMachine, isEntryLine, taskOf, jobOf, withEntry, lastLine}
 use Rattle.probe.specs.Output.{machineLines}
-use Rattle.probe.specs.declared.input.LastLine.{LastLine}
-use Rattle.probe.specs.declared.input.LastLine.the-variants.{Read, Bad}
-use Rattle.probe.specs.declared.input.Entries.{Entries}
+use Rattle.probe.specs.declared.input.Asked.{Asked}
+use Rattle.probe.specs.declared.input.Asked.the-variants.{Read, Bad}
 
 -- "the line of the call's answer as replay does .., and then the machine after the call in the same 33 lines"
 unfoldable pub shown : Machine → Call → List ℕ
 shown m call = answerLine call (step m call) ++ machineLines (step m call .machine)
 
 -- what is printed once the machine is read, by the call's line: "Anything else prints `BAD LINE n` alone"
-unfoldable pub callRead : Machine → LastLine → List ℕ
+unfoldable pub callRead : Machine → Asked → List ℕ
 callRead m (Read call) = shown m call
 callRead m (Bad n) = badLine n
 
@@ -31,18 +27,13 @@ unfoldable pub entriesRead : Machine → (i more : ℕ) → List ℕ → List �
 entriesRead m i zero s = callRead m (lastLine s)
 entriesRead m i (suc more) s =
     let l = before lineEnd s in
-    cond (begins isEntryLine s) (entriesRead (withEntry m i (taskOf l) (jobOf l)) (suc i) more (after lineEnd s)) (badLine (i + 2))
+    cond (firstIs isEntryLine s) (entriesRead (withEntry m i (taskOf l) (jobOf l)) (suc i) more (after lineEnd s)) (badLine (i + 2))
 
 -- what is printed for a text: "n, counted from 1, is the first line that is not what it must be, is not ended, or is missing"
 unfoldable pub printed : List ℕ → List ℕ
 printed s =
     let l = before lineEnd s in
-    cond (begins isMachineLine s) (entriesRead (blankMachine (countOf l) (coresOf l)) 0 maxTasks (after lineEnd s)) (badLine 1)
-
--- what reading the entries of a machine from a text answers: where they end, and what is printed by whether a line was bad
-pub record EntriesAre (m : Machine) (s : List ℕ) (r : Entries) : Type 0 where
-  pub within : r .length ≤ length s
-  pub are : entriesRead m 0 maxTasks s ≡ cond (eqb (r .bad) 0) (callRead (r .machine) (lastLine (drop (r .length) s))) (badLine (r .bad))
+    cond (firstIs isMachineLine s) (entriesRead (blankMachine (countOf l) (coresOf l)) 0 maxTasks (after lineEnd s)) (badLine 1)
 
 -- the room that an array needs for it: 44 bytes for the line of an answer, and those for a machine's lines
 abbrev pub room : ℕ

@@ -15,11 +15,11 @@ use text::fields::read_numbers;
 ghost use Prim.Native.Nat.{_<_};
 ghost use mathlib.Core.Path.{_≡_};
 ghost use Rattle.tasks.specs.Limits.{maxTasks};
-ghost use Rattle.probe.specs.Input.{machineLine, blankMachine, entryOf, withEntry, lastLine};
-ghost use Rattle.probe.specs.Printed.{EntriesAre};
+ghost use Rattle.probe.specs.Input.{firstLine, blankMachine, entryOf, withEntry, lastLine};
+ghost use Rattle.probe.specs.Printed.{callRead, entriesRead, printed};
 
 // The line of the count and the cores.
-pub enum MachineLine {
+enum FirstLine {
     Read {
         count: u32,
         cores: u32,
@@ -29,41 +29,40 @@ pub enum MachineLine {
 }
 
 // The line of an entry.
-pub enum EntryLine {
+enum EntryLine {
     Read { task: Task, job: Job, length: usize },
     Bad,
 }
 
-// The line of the call, or the number of the line that is bad.
-pub enum LastLine {
+// The call that a text asks for, or the number of its first bad line.
+pub enum Asked {
     Read(Call),
     Bad(usize),
 }
 
-// The machine with its entries, whose lines have so many bytes; or `bad` is the number of the line that is bad, and else 0.
-pub struct Entries {
+// The machine of a text, as far as it was read, and the call on it.
+pub struct Input {
     pub machine: Machine,
-    pub bad: usize,
-    pub length: usize,
+    pub asked: Asked,
 }
 
 // The count and the cores.
-pub fn machine_line(text: &[u8]) -> MachineLine
-    ensures { λ r. ⌜ r ≡ machineLine (now (text .entry)) ⌝ }
+fn first_line(text: &[u8]) -> FirstLine
+    ensures { λ r. ⌜ r ≡ firstLine (now (text .entry)) ⌝ }
 {
     let length = bytes::find(text, b'\n');
     if text.len() <= length {
-        return MachineLine::Bad;
+        return FirstLine::Bad;
     }
     let line = &text[..length];
     if !bytes::begins_with(line, b"MACHINE ") {
-        return MachineLine::Bad;
+        return FirstLine::Bad;
     }
     let mut numbers = [0u32; 2];
     if !read_numbers(&line[8..], &mut numbers, MAX_DIGITS, MAX_NUMBER) {
-        return MachineLine::Bad;
+        return FirstLine::Bad;
     }
-    MachineLine::Read {
+    FirstLine::Read {
         count: numbers[0],
         cores: numbers[1],
         length: length + 1,
@@ -71,7 +70,7 @@ pub fn machine_line(text: &[u8]) -> MachineLine
 }
 
 // A machine before its entries are read.
-pub fn blank_machine(count: u32, cores: u32) -> Machine
+fn blank_machine(count: u32, cores: u32) -> Machine
     ensures { λ r. ⌜ r ≡ blankMachine count cores ⌝ }
 {
     let mut table = Table::empty();
@@ -127,44 +126,59 @@ fn with_entry(mut machine: Machine, i: usize, task: Task, job: Job) -> Machine
     machine
 }
 
-// The machine with the entries of the next 32 lines.
-pub fn read_entries(text: &[u8], mut machine: Machine) -> Entries
-    ensures { λ r. ⌜ EntriesAre machine (now (text .entry)) r ⌝ }
+// The call of the last line, which nothing follows.
+fn last_line(text: &[u8]) -> Asked
+    ensures { λ r. ⌜ r ≡ lastLine (now (text .entry)) ⌝ }
+{
+    let length = bytes::find(text, b'\n');
+    if text.len() <= length {
+        return Asked::Bad(34);
+    }
+    let CallLine::Read(call) = call_line(&text[..length]) else {
+        return Asked::Bad(34);
+    };
+    if length + 1 < text.len() {
+        return Asked::Bad(35);
+    }
+    Asked::Read(call)
+}
+
+// Reads the lines after the first: the entries of the machine, and the call.
+fn read_entries(text: &[u8], mut machine: Machine) -> Input
+    ensures { λ r. ⌜ entriesRead machine 0 maxTasks (now (text .entry)) ≡ callRead (r .machine) (r .asked) ⌝ }
 {
     let mut at: usize = 0;
     let mut i: usize = 0;
     while i < MAX_TASKS {
         let EntryLine::Read { task, job, length } = entry_line(&text[at..]) else {
-            return Entries {
+            return Input {
                 machine,
-                bad: i + 2,
-                length: at,
+                asked: Asked::Bad(i + 2),
             };
         };
         machine = with_entry(machine, i, task, job);
         at += length;
         i += 1;
     }
-    Entries {
-        machine,
-        bad: 0,
-        length: at,
-    }
+    let asked = last_line(&text[at..]);
+    Input { machine, asked }
 }
 
-// The call, where nothing follows its line.
-pub fn last_line(text: &[u8]) -> LastLine
-    ensures { λ r. ⌜ r ≡ lastLine (now (text .entry)) ⌝ }
+// Reads a text.
+pub fn read(text: &[u8]) -> Input
+    ensures { λ r. ⌜ printed (now (text .entry)) ≡ callRead (r .machine) (r .asked) ⌝ }
 {
-    let length = bytes::find(text, b'\n');
-    if text.len() <= length {
-        return LastLine::Bad(34);
-    }
-    let CallLine::Read(call) = call_line(&text[..length]) else {
-        return LastLine::Bad(34);
+    let FirstLine::Read {
+        count,
+        cores,
+        length,
+    } = first_line(text)
+    else {
+        let machine = blank_machine(0, 0);
+        return Input {
+            machine,
+            asked: Asked::Bad(1),
+        };
     };
-    if length + 1 < text.len() {
-        return LastLine::Bad(35);
-    }
-    LastLine::Read(call)
+    read_entries(&text[length..], blank_machine(count, cores))
 }

@@ -1,6 +1,5 @@
 // Probes one call: makes it on the machine of the input, and prints its answer and the machine after it.
-use crate::input::LastLine;
-use crate::input::MachineLine;
+use crate::input::Asked;
 use machine::call::Call;
 use machine::machine::Machine;
 use script::output::put_answer;
@@ -37,24 +36,12 @@ fn probe(text: &[u8], output: &mut [u8]) -> usize
     requires { ⌜ room ≤ length (now output) ⌝ }
     ensures { λ r. ⌜ Holds (printed (now (text .entry))) (now (output .exit)) r ⌝ }
 {
-    let MachineLine::Read {
-        count,
-        cores,
-        length,
-    } = input::machine_line(text)
-    else {
-        return put_bad_line(output, 0, 1);
-    };
-    let lines = &text[length..];
-    let entries = input::read_entries(lines, input::blank_machine(count, cores));
-    if entries.bad != 0 {
-        return put_bad_line(output, 0, entries.bad);
-    }
-    let at = entries.length;
-    let machine = entries.machine;
-    match input::last_line(&lines[at..]) {
-        LastLine::Bad(line) => put_bad_line(output, 0, line),
-        LastLine::Read(call) => make(machine, call, output),
+    let input = input::read(text);
+    let asked = input.asked;
+    let machine = input.machine;
+    match asked {
+        Asked::Bad(line) => put_bad_line(output, 0, line),
+        Asked::Read(call) => make(machine, call, output),
     }
 }
 

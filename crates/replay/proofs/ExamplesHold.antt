@@ -10,9 +10,9 @@ use Rattle.reader.specs.Names.{columnIn, columnsIn, eachNamed, columnsOf, three
 use Rattle.reader.specs.Reading.{refused, threeValues, beginsWithValues, taskOf, ended, valueLines, reading}
 use Rattle.machine.proofs.Computing.{computing}
 use Rattle.script.specs.Calls.{joinOf, callWith, callOf}
-use Rattle.script.specs.Output.{badLine, reportLine, acceptedLine, outcomeLine, answerLine, onCall}
+use Rattle.script.specs.Output.{badLine, reportLine, acceptedLine, outcomeLine, answerLine}
 use Rattle.replay.specs.Calls.{callsFrom, callsStart}
-use Rattle.replay.specs.Script.{answers, printedAfterStart, printedAfterReading, printedFor, printedAfterCores, printedAfterFirst, printed}
+use Rattle.replay.specs.Script.{onCall, answers, printedAfterStart, printedAfterReading, printedFor, printedAfterCores, printedAfterFirst, printed}
 use Rattle.replay.specs.Examples.{exampleScript, exampleOutput}
 
 pub example-holds : printed exampleScript ≡ exampleOutput

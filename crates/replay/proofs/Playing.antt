@@ -17,9 +17,9 @@ use Rattle.machine.specs.declared.machine.Machine.{Machine}
 use Rattle.machine.specs.declared.call.Call.{Call}
 use Rattle.script.specs.declared.calls.CallLine.the-variants.{Read, Bad}
 use Rattle.script.specs.Calls.{callOf}
-use Rattle.script.specs.Output.{Line, badLine, answerLine, onCall, refusalRoom, answerRoom}
+use Rattle.script.specs.Output.{Line, badLine, answerLine, refusalRoom, answerRoom}
 use Rattle.script.proofs.CallLaws.{call-long}
-use Rattle.replay.specs.Script.{answers, callRoom}
+use Rattle.replay.specs.Script.{onCall, answers, callRoom}
 
 -- the answers to the calls of a text
 abbrev pub answered : Machine → ℕ → List ℕ → List ℕ

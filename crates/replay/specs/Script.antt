@@ -15,10 +15,13 @@ use Rattle.tasks.specs.declared.outcome.Outcome.{Outcome}
 use Rattle.tasks.specs.declared.outcome.Outcome.the-variants.{Done, Refused}
 use Rattle.machine.specs.Calls.{start, step}
 use Rattle.machine.specs.declared.machine.Machine.{Machine}
+use Rattle.machine.specs.declared.call.Call.{Call}
 use Rattle.machine.specs.declared.answer.Answer.{Answer}
 use Rattle.script.specs.Numbers.{maxDigits, maxNumber}
 use Rattle.script.specs.Calls.{callOf}
-use Rattle.script.specs.Output.{badLine, answerLine, onCall}
+use Rattle.script.specs.Output.{badLine, answerLine}
+use Rattle.script.specs.declared.calls.CallLine.{CallLine}
+use Rattle.script.specs.declared.calls.CallLine.the-variants as Line
 use Rattle.replay.specs.Words.{coresWord}
 use Rattle.replay.specs.Calls.{callsStart}
 use Rattle.replay.specs.declared.calls.CallsStart.{CallsStart}
@@ -27,6 +30,11 @@ use Rattle.replay.specs.declared.calls.CallsStart.the-variants.{Found, M
 -- "at most 65,536 bytes"
 abbrev pub maxScriptLength : ℕ
 maxScriptLength = 65536
+
+-- what is printed from a line on: if it is a call, by `played`, and if it is none, `bad`
+unfoldable pub onCall : CallLine → (Call → List ℕ) → List ℕ → List ℕ
+onCall (Line.Read call) played bad = played call
+onCall Line.Bad played bad = bad
 
 -- the lines of answers to the calls of some lines and what stands unended after them: the first line has the number n in the whole script, and
 -- the first call gets the machine m. "A line that is no call prints `BAD LINE n` .. and ends the run", and so does an unended last line

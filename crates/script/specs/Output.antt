@@ -12,8 +12,6 @@ use Rattle.machine.specs.declared.answer.Answer.{Answer}
 use Rattle.machine.specs.declared.answer.Report.{Report}
 use Rattle.machine.specs.Mask.{mask}
 use Rattle.script.specs.Words.{doneWord, badLineWord}
-use Rattle.script.specs.declared.calls.CallLine.{CallLine}
-use Rattle.script.specs.declared.calls.CallLine.the-variants.{Read, Bad}
 
 -- "A line that is no call prints `BAD LINE n`", and so does any other line that is not what it must be, and the place of a line that is missing
 unfoldable pub badLine : ℕ → List ℕ
@@ -38,11 +36,6 @@ outcomeLine (Refused number place) call r = refusedLine number
 -- the line of a call and its answer
 unfoldable pub answerLine : Call → Answer → List ℕ
 answerLine call a = outcomeLine (a .outcome) call (a .report)
-
--- what is printed from a line on: if it is a call, by `played`, and if it is none, `bad`
-unfoldable pub onCall : CallLine → (Call → List ℕ) → List ℕ → List ℕ
-onCall (Read call) played bad = played call
-onCall Bad played bad = bad
 
 -- bytes that are enough for a line `REFUSED n` or `BAD LINE n`
 abbrev pub refusalRoom : ℕ

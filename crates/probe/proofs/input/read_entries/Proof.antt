@@ -27,8 +27,8 @@ sub-entry-line c = c .before .loop .inv .within
 part-entry-line-start : tie.Need-part-entry-line-start Inv-loop μ-loop
 part-entry-line-start c = c .before .loop .inv .within
 
-add-t14 : tie.Need-add-t14 Inv-loop μ-loop
-add-t14 c = omega (arith, c .before .before .before .before .before .loop .inv .few)
+add-t15 : tie.Need-add-t15 Inv-loop μ-loop
+add-t15 c = omega (arith, c .before .before .before .before .before .loop .inv .few)
 
 returns : tie.Need-returns Inv-loop μ-loop
 returns c =
@@ -71,8 +71,16 @@ loop-again c =
     let t = at-loop k in
     rw (c .with-entry .ensures) (fill-more _ _ _ _ _ (t .loop .inv) (in-loop k .loop-test .taken) _ _ _ (entry-is k))
 
+sub-last-line : tie.Need-sub-last-line Inv-loop μ-loop
+sub-last-line c = c .before .loop .inv .within
+
+part-last-line-start : tie.Need-part-last-line-start Inv-loop μ-loop
+part-last-line-start c = c .before .loop .inv .within
+
 returns-2 : tie.Need-returns-2 Inv-loop μ-loop
-returns-2 c = filled _ _ _ _ _ (c .before .loop .inv) (c .loop-test .left)
+returns-2 c =
+    let t = c .before .before in
+    filled _ _ _ _ _ (t .before .loop .inv) (t .loop-test .left) _ (c .last-line .ensures)
 
 pub read-entries-spec : {M : Type 1} → statement M
 read-entries-spec =
@@ -87,11 +95,15 @@ read-entries-spec =
     (λ c κs. search needs)
     (λ c. search needs)
     (λ c. search needs)
-    add-t14
+    add-t15
     returns
     with-entry-requires
     add-at
     add-i
     loop-less
     loop-again
+    sub-last-line
+    part-last-line-start
+    (λ c. search needs)
+    (λ c κs. search needs)
     returns-2)

@@ -1,4 +1,4 @@
--- `machine_line` meets its contract: by the line's end, its word, and its two numbers.
+-- `first_line` meets its contract: by the line's end, its word, and its two numbers.
 use Prim.Native.Nat.{ℕ, _≤_}
 use native.Mathlib.Nat.{le-of-lt}
 use mathlib.Core.Path.{_≡_, sym}
@@ -13,8 +13,8 @@ use Rattle.text.specs.Words.{beginsWith}
 use Rattle.text.proofs.WordLaws.{not-longer}
 use Rattle.probe.specs.Words.{machineWord}
 use Rattle.probe.proofs.InputLaws.{no-machine, no-word, no-pair, machine-read}
-use Rattle.probe.proofs.input.machine_line.Statement.{statement}
-use Rattle.probe.proofs.input.machine_line.Tie as tie
+use Rattle.probe.proofs.input.first_line.Statement.{statement}
+use Rattle.probe.proofs.input.first_line.Tie as tie
 
 returns : tie.Need-returns
 returns c = no-machine _ _ (c .before .find .ensures) (c .if1 .taken)
@@ -71,8 +71,8 @@ returns-4 c =
     let d = line-of (w .before) in
     machine-read _ _ (d .before .find .ensures) (d .if1 .left) (word w) (numbers n) (two n) (rw (not-false (n .read-numbers .result) (c .if3 .left)) at (n .read-numbers .ensures))
 
-pub machine-line-spec : {M : Type 1} → statement M
-machine-line-spec =
+pub first-line-spec : {M : Type 1} → statement M
+first-line-spec =
     tie.close
     (tie.spec
     (λ c κs. search needs)
