@@ -13,7 +13,7 @@ use Rattle.laws.proofs.Parts.{from, past, from-drop, from-length}
 use Rattle.text.specs.Lines.{lineEnd, has, before, field}
 use Rattle.text.specs.Words.{beginsWith}
 use Rattle.text.specs.Number.{decimal}
-use Rattle.text.specs.Fields.{areNumbers, NumbersRead}
+use Rattle.probe.specs.Numbers.{areNumbers, NumbersRead}
 use Rattle.text.proofs.Split.{Cut, cut, hasnt-of}
 use Rattle.text.proofs.LineLaws.{no-bytes, some-bytes}
 use Rattle.script.specs.Numbers.{maxDigits, maxNumber}

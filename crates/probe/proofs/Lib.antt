@@ -1,3 +1,4 @@
+pub mod NumbersRead
 pub mod InputLaws
 pub mod Filling
 pub mod Showing

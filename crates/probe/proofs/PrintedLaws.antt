@@ -10,7 +10,7 @@ use Rattle.text.specs.Lines.{lineEnd, has, before, after}
 use Rattle.text.proofs.Split.{here}
 use Rattle.tasks.specs.Limits.{maxTasks}
 use Rattle.machine.specs.declared.machine.Machine.{Machine}
-use Rattle.probe.specs.Input.{firstIs, isMachineLine, countOf, coresOf, blankMachine, firstLine}
+use Rattle.probe.specs.Input.{firstIs, isMachineLine, countOf, coresOf, emptyMachine, firstLine}
 use Rattle.probe.specs.Printed.{callRead, entriesRead, printed}
 use Rattle.probe.specs.declared.input.FirstLine.the-variants as First
 use Rattle.probe.specs.declared.input.Asked.the-variants.{Bad}
@@ -25,7 +25,7 @@ module _ (s : List ℕ) where
   -- the first line has n bytes, and the text goes on after them
   pub record MachineIs (count cores n : ℕ) : Type 0 where
     pub within : n ≤ length s
-    pub is : printed s ≡ entriesRead (blankMachine count cores) 0 maxTasks (from s n)
+    pub is : printed s ≡ entriesRead (emptyMachine count cores) 0 maxTasks (from s n)
 
   pub machine-is : (count cores n : ℕ) → firstLine s ≡ First.Read count cores n → MachineIs count cores n
   unfolding printed firstLine

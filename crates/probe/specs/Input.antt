@@ -8,7 +8,7 @@ use lib.ListN.{length, drop, set, replicate}
 use Rattle.text.specs.Lines.{lineEnd, has, before, after, isEmpty, field}
 use Rattle.text.specs.Words.{beginsWith}
 use Rattle.text.specs.Number.{decimal}
-use Rattle.text.specs.Fields.{areNumbers}
+use Rattle.probe.specs.Numbers.{areNumbers}
 use Rattle.tasks.specs.Limits.{maxTasks}
 use Rattle.tasks.specs.Table.{zeroTask}
 use Rattle.tasks.specs.declared.task.Task.{Task}
@@ -43,8 +43,8 @@ unfoldable pub coresOf : List ℕ → ℕ
 coresOf l = decimal (field 1 (drop (length machineWord) l))
 
 -- a machine before its entries are read: they are all zero
-unfoldable pub blankMachine : (count cores : ℕ) → Machine
-blankMachine count cores =
+unfoldable pub emptyMachine : (count cores : ℕ) → Machine
+emptyMachine count cores =
     record { table = record { count = count; tasks = replicate maxTasks zeroTask }; cores = cores; jobs = replicate maxTasks freshJob }
 
 -- "seven numbers `PERIOD BUDGET DEADLINE OPEN LEFT OWED GAP`", where "OPEN is 0 or 1"

@@ -1,4 +1,5 @@
 pub mod Words
+pub mod Numbers
 pub mod Input
 pub mod Output
 pub mod Printed

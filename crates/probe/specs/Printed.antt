@@ -8,7 +8,7 @@ use Rattle.machine.specs.Calls.{step}
 use Rattle.machine.specs.declared.machine.Machine.{Machine}
 use Rattle.machine.specs.declared.call.Call.{Call}
 use Rattle.script.specs.Output.{badLine, answerLine}
-use Rattle.probe.specs.Input.{firstIs, isMachineLine, countOf, coresOf, blankMachine, isEntryLine, taskOf, jobOf, withEntry, lastLine}
+use Rattle.probe.specs.Input.{firstIs, isMachineLine, countOf, coresOf, emptyMachine, isEntryLine, taskOf, jobOf, withEntry, lastLine}
 use Rattle.probe.specs.Output.{machineLines}
 use Rattle.probe.specs.declared.input.Asked.{Asked}
 use Rattle.probe.specs.declared.input.Asked.the-variants.{Read, Bad}
@@ -33,7 +33,7 @@ entriesRead m i (suc more) s =
 unfoldable pub printed : List ℕ → List ℕ
 printed s =
     let l = before lineEnd s in
-    cond (firstIs isMachineLine s) (entriesRead (blankMachine (countOf l) (coresOf l)) 0 maxTasks (after lineEnd s)) (badLine 1)
+    cond (firstIs isMachineLine s) (entriesRead (emptyMachine (countOf l) (coresOf l)) 0 maxTasks (after lineEnd s)) (badLine 1)
 
 -- the room that an array needs for it: 44 bytes for the line of an answer, and those for a machine's lines
 abbrev pub room : ℕ

@@ -1,4 +1,5 @@
 // What the lines of the input say. A text starts here with the line that is read; a length is that of a line with its byte 10.
+use crate::numbers::read_numbers;
 use job::job::Job;
 use job::job::fresh_job;
 use machine::call::Call;
@@ -11,11 +12,10 @@ use tasks::limits::MAX_TASKS;
 use tasks::table::Table;
 use tasks::task::Task;
 use text::bytes;
-use text::fields::read_numbers;
 ghost use Prim.Native.Nat.{_<_};
 ghost use mathlib.Core.Path.{_≡_};
 ghost use Rattle.tasks.specs.Limits.{maxTasks};
-ghost use Rattle.probe.specs.Input.{firstLine, blankMachine, entryOf, withEntry, lastLine};
+ghost use Rattle.probe.specs.Input.{firstLine, emptyMachine, entryOf, withEntry, lastLine};
 ghost use Rattle.probe.specs.Printed.{callRead, entriesRead, printed};
 
 // The line of the count and the cores.
@@ -70,8 +70,8 @@ fn first_line(text: &[u8]) -> FirstLine
 }
 
 // A machine before its entries are read.
-fn blank_machine(count: u32, cores: u32) -> Machine
-    ensures { λ r. ⌜ r ≡ blankMachine count cores ⌝ }
+fn empty_machine(count: u32, cores: u32) -> Machine
+    ensures { λ r. ⌜ r ≡ emptyMachine count cores ⌝ }
 {
     let mut table = Table::empty();
     table.count = count as usize;
@@ -174,11 +174,11 @@ pub fn read(text: &[u8]) -> Input
         length,
     } = first_line(text)
     else {
-        let machine = blank_machine(0, 0);
+        let machine = empty_machine(0, 0);
         return Input {
             machine,
             asked: Asked::Bad(1),
         };
     };
-    read_entries(&text[length..], blank_machine(count, cores))
+    read_entries(&text[length..], empty_machine(count, cores))
 }

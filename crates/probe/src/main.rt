@@ -6,6 +6,7 @@ use script::output::put_answer;
 use script::output::put_bad_line;
 
 mod input;
+mod numbers;
 mod output;
 
 ghost use Prim.Native.Nat.{_≤_};

@@ -8,6 +8,5 @@ pub mod LineLaws
 pub mod FieldLaws
 pub mod NumbersOn
 pub mod ThreeNumbers
-pub mod NumbersRead
 pub mod Putting
 pub mod NumbersLine

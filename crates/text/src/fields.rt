@@ -1,9 +1,9 @@
-// Lines of fields, with one space between them.
+// Lines of three fields, with one space between them.
 use crate::bytes;
 use crate::number;
 use crate::number::Before;
 ghost use mathlib.Core.Path.{_≡_};
-ghost use Rattle.text.specs.Fields.{threeFields, threeNumbers, NumbersRead};
+ghost use Rattle.text.specs.Fields.{threeFields, threeNumbers};
 
 // The first field ends at `first` and the second at `second`: each begins after the space that ends the one before.
 pub enum Fields {
@@ -81,25 +81,4 @@ pub fn three_numbers(text: &[u8], digits: usize, largest: u32) -> Numbers
         third: c,
         length: length + 1 + more + 1 + most,
     }
-}
-
-// Whether a line, which stands here without its byte 10, is as many numbers as the array has entries. Where it is, they are the array's entries.
-pub fn read_numbers(line: &[u8], numbers: &mut [u32], digits: usize, largest: u32) -> bool
-    ensures { λ r. ⌜ NumbersRead digits largest (now (line .entry)) (now (numbers .exit)) r ⌝ }
-{
-    let mut rest = line;
-    let mut i: usize = 0;
-    while i < numbers.len() {
-        let Before::Read { number, length } = number::number_up_to(rest, b' ', digits, largest)
-        else {
-            return false;
-        };
-        numbers[i] = number;
-        i += 1;
-        if rest.len() <= length {
-            return i == numbers.len();
-        }
-        rest = &rest[length + 1..];
-    }
-    false
 }

@@ -9,7 +9,7 @@ use borrow.Author.Needs.{needs}
 use lib.ListN.{length, take}
 use lib.Seq.{length-take-le}
 use Rattle.laws.proofs.Booleans.{was-false}
-use Rattle.text.specs.Fields.{NumbersRead}
+use Rattle.probe.specs.Numbers.{NumbersRead}
 use Rattle.script.specs.Numbers.{maxDigits, maxNumber}
 use Rattle.probe.proofs.InputLaws.{no-entry, no-seven, no-flag, entry-read}
 use Rattle.probe.proofs.input.entry_line.Statement.{statement}

@@ -4,12 +4,12 @@ use native.Mathlib.Omega.{arith}
 use mathlib.Core.Path.{_≡_, refl, sym, _∙_}
 use borrow.Author.Needs.{needs}
 use lib.ListN.{length, length-set}
 use Rattle.text.specs.Lines.{space}
 use Rattle.text.specs.Number.{numberUpTo}
 use Rattle.text.specs.declared.number.Before.the-variants.{Read}
-use Rattle.text.proofs.NumbersRead.{Reading, reading-none, reading-more, no-number, last-field, fields-left}
-use Rattle.text.proofs.fields.read_numbers.Statement.{statement}
-use Rattle.text.proofs.fields.read_numbers.Tie as tie
+use Rattle.probe.proofs.NumbersRead.{Reading, reading-none, reading-more, no-number, last-field, fields-left}
+use Rattle.probe.proofs.numbers.read_numbers.Statement.{statement}
+use Rattle.probe.proofs.numbers.read_numbers.Tie as tie
 
 abbrev Inv-loop : tie.InvT-loop
 Inv-loop line numbers₀ digits largest rest₀ i₀ numbers rest i = Reading digits largest line numbers rest i × (length numbers ≡ length numbers₀)

@@ -12,13 +12,13 @@ use lib.Seq.{getD-set-same, getD-set-other}
 use Rattle.laws.proofs.CaseSplits.{by-equal}
 use Rattle.laws.proofs.Tests.{same-eqb}
 use Rattle.laws.proofs.Parts.{past, from-length}
 use Rattle.text.specs.Lines.{space, has, before, after, fieldCount, field}
 use Rattle.text.specs.Number.{decimal, isNumber, numberUpTo}
-use Rattle.text.specs.Fields.{eachNumber, areNumbers, NumbersRead}
+use Rattle.probe.specs.Numbers.{eachNumber, areNumbers, NumbersRead}
 use Rattle.text.specs.declared.number.Before.the-variants.{Read, Broken}
 use Rattle.text.proofs.Split.{hasnt-of, cut}
 use Rattle.text.proofs.NumberLaws.{up-to, not-up-to}
 use Rattle.text.proofs.FieldLaws.{count-one, count-more, count-positive}
 
 module _ (k largest : ℕ) where
   -- between two fields: the array's first i entries are the numbers of the line's first i fields, and the rest of the line begins with the next

@@ -1,0 +1,25 @@
+// Lines of numbers, with one space between them.
+use text::number;
+use text::number::Before;
+ghost use Rattle.probe.specs.Numbers.{NumbersRead};
+
+// Whether a line, which stands here without its byte 10, is as many numbers as the array has entries. Where it is, they are the array's entries.
+pub fn read_numbers(line: &[u8], numbers: &mut [u32], digits: usize, largest: u32) -> bool
+    ensures { λ r. ⌜ NumbersRead digits largest (now (line .entry)) (now (numbers .exit)) r ⌝ }
+{
+    let mut rest = line;
+    let mut i: usize = 0;
+    while i < numbers.len() {
+        let Before::Read { number, length } = number::number_up_to(rest, b' ', digits, largest)
+        else {
+            return false;
+        };
+        numbers[i] = number;
+        i += 1;
+        if rest.len() <= length {
+            return i == numbers.len();
+        }
+        rest = &rest[length + 1..];
+    }
+    false
+}
