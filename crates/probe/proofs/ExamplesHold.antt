@@ -3,7 +3,7 @@ use mathlib.Core.Path.{_≡_, refl}
 use Rattle.text.specs.Lines.{has, before, after, fieldCount, field}
 use Rattle.text.specs.Words.{beginsWith}
 use Rattle.text.specs.Number.{isDigit, allDigits, leadingZero, wellFormed, decimalFrom, decimal, isNumber, digitsOf, decimalText}
-use Rattle.probe.specs.Numbers.{eachNumber, areNumbers}
+use Rattle.text.specs.Fields.{eachNumber, areNumbers}
 use Rattle.text.specs.Output.{furtherNumbers, numbersLine}
 use Rattle.script.specs.Output.{badLine}
 use Rattle.probe.specs.Input.{firstIs, isMachineLine, isEntryLine}

@@ -13,7 +13,8 @@ use Rattle.laws.proofs.Parts.{from, past, from-drop, from-length}
 use Rattle.text.specs.Lines.{lineEnd, has, before, field}
 use Rattle.text.specs.Words.{beginsWith}
 use Rattle.text.specs.Number.{decimal}
-use Rattle.probe.specs.Numbers.{areNumbers, NumbersRead}
+use Rattle.text.specs.Fields.{areNumbers}
+use Rattle.probe.specs.Numbers.{NumbersRead}
 use Rattle.text.proofs.Split.{Cut, cut, hasnt-of}
 use Rattle.text.proofs.LineLaws.{no-bytes, some-bytes}
 use Rattle.script.specs.Numbers.{maxDigits, maxNumber}
@@ -91,8 +92,8 @@ module _ (s : List ℕ) (k : ℕ) (e : k ≡ length (before lineEnd s)) where
       unfolding entryOf firstIs isEntryLine taskOf jobOf
       entry-read o =
           let is = number-at in
-          rw
-          (line .is, ← line .front, ← rw l at (n .is), ← is 0 (omega arith), ← is 1 (omega arith), ← is 2 (omega arith), ← is 3 (omega arith), ← is 4 (omega arith), ← is 5 (omega arith), ← is 6 (omega arith), le-leb (getD a 3 0) 1 o, ap length (line .front) ∙ sym e)
+          rw (line .is, ← line .front, ← rw l at (n .is), ← is 3 (omega arith), le-leb (getD a 3 0) 1 o, ap length (line .front) ∙ sym e)
+          (rw (← is 0 (omega arith), ← is 1 (omega arith), ← is 2 (omega arith), ← is 4 (omega arith), ← is 5 (omega arith), ← is 6 (omega arith)))
 
     pub no-call : callOf (take k s) ≡ Line.Bad → Asked.Bad 34 ≡ lastLine s
     unfolding lastLine onlyCall

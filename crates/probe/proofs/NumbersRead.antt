@@ -2,10 +2,10 @@
 -- `reading-more`, and what the answer says of the line where the reading stops: `no-number`, `last-field` and `fields-left`.
 use Prim.Native.Nat.{ℕ, zero, suc, _+_, _-_, _≤_, _<_}
 use native.Mathlib.Omega.{arith}
-use mathlib.Core.Path.{_≡_, refl, sym, ap, _∙_}
-use mathlib.Core.Bool.{Bool, true, false, _&&_, and-false, false≢true}
+use mathlib.Core.Path.{_≡_, sym, ap, _∙_}
+use mathlib.Core.Bool.{true, false, and-false, false≢true}
 use mathlib.Core.List.{List}
-use borrow.Author.Tests.{eq-eqb, ne-eqb, eqb-true}
+use borrow.Author.Tests.{ne-eqb, eqb-true}
 use lib.Dec.{eqb}
 use lib.ListN.{length, getD, set, length-set}
 use lib.Seq.{getD-set-same, getD-set-other}
@@ -14,7 +14,8 @@ use Rattle.laws.proofs.Tests.{same-eqb}
 use Rattle.laws.proofs.Parts.{past, from-length}
 use Rattle.text.specs.Lines.{space, has, before, after, fieldCount, field}
 use Rattle.text.specs.Number.{decimal, isNumber, numberUpTo}
-use Rattle.probe.specs.Numbers.{eachNumber, areNumbers, NumbersRead}
+use Rattle.text.specs.Fields.{eachNumber, areNumbers}
+use Rattle.probe.specs.Numbers.{NumbersRead}
 use Rattle.text.specs.declared.number.Before.the-variants.{Read, Broken}
 use Rattle.text.proofs.Split.{hasnt-of, cut}
 use Rattle.text.proofs.NumberLaws.{up-to, not-up-to}

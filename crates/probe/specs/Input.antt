@@ -8,7 +8,7 @@ use lib.ListN.{length, drop, set, replicate}
 use Rattle.text.specs.Lines.{lineEnd, has, before, after, isEmpty, field}
 use Rattle.text.specs.Words.{beginsWith}
 use Rattle.text.specs.Number.{decimal}
-use Rattle.probe.specs.Numbers.{areNumbers}
+use Rattle.text.specs.Fields.{areNumbers}
 use Rattle.tasks.specs.Limits.{maxTasks}
 use Rattle.tasks.specs.Table.{zeroTask}
 use Rattle.tasks.specs.declared.task.Task.{Task}

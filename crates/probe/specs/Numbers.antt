@@ -1,21 +1,12 @@
--- Lines of numbers (docs/HANDBOOK.md, "Probing one call").
-use Prim.Native.Nat.{ℕ, zero, suc, _<_}
+-- What reading a line of numbers answers, for the contract of a private function.
+use Prim.Native.Nat.{ℕ, _<_}
 use mathlib.Core.Path.{_≡_}
 use mathlib.Core.List.{List}
-use mathlib.Core.Bool.{Bool, true, _&&_}
-use lib.Dec.{eqb}
+use mathlib.Core.Bool.{Bool, true}
 use lib.ListN.{length, getD}
-use Rattle.text.specs.Lines.{space, after, fieldCount, field}
-use Rattle.text.specs.Number.{isNumber, decimal}
-
--- whether each of the first n fields of a line is a number
-unfoldable pub eachNumber : (digits largest n : ℕ) → List ℕ → Bool
-eachNumber digits largest zero l = true
-eachNumber digits largest (suc n) l = isNumber digits largest (field 0 l) && eachNumber digits largest n (after space l)
-
--- whether a line is n numbers: "Between two fields stands one space"
-unfoldable pub areNumbers : (digits largest n : ℕ) → List ℕ → Bool
-areNumbers digits largest n l = eqb (fieldCount l) n && eachNumber digits largest n l
+use Rattle.text.specs.Lines.{field}
+use Rattle.text.specs.Number.{decimal}
+use Rattle.text.specs.Fields.{areNumbers}
 
 -- what reading a line as the numbers of an array answers: whether it is as many numbers, and if so, each entry is the number of its field
 pub record NumbersRead (digits largest : ℕ) (line array : List ℕ) (r : Bool) : Type 0 where

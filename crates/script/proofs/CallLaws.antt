@@ -1,19 +1,22 @@
--- The line of a call has five bytes or more: `call-long`.
+-- The line of a call has five bytes or more, and at most 37: `call-long` and `call-short`.
 use Prim.Native.Nat.{ℕ, _≤_}
 use native.Mathlib.Omega.{arith}
 use mathlib.Core.Path.{_≡_}
 use mathlib.Core.List.{List}
-use lib.ListN.{length}
+use lib.ListN.{length, drop, length-drop}
 use Rattle.laws.proofs.CaseSplits.{by-cond, clash}
 use Rattle.text.specs.Words.{beginsWith}
-use Rattle.text.specs.Number.{numberAfter}
+use Rattle.text.specs.Number.{isNumber, numberOf, numberAfter}
+use Rattle.text.specs.Fields.{areThree}
 use Rattle.text.specs.declared.number.Number.{Number}
 use Rattle.text.proofs.WordLaws.{not-longer}
+use Rattle.text.proofs.NumberLaws.{number-short}
+use Rattle.text.proofs.Lengths.{three-short}
 use Rattle.machine.specs.declared.call.Call.{Call}
 use Rattle.machine.specs.declared.call.Call.the-variants.{Release, Finish, Slot}
 use Rattle.script.specs.Words.{releaseWord, finishWord, joinWord, slotWord}
 use Rattle.script.specs.Numbers.{maxDigits, maxNumber}
-use Rattle.script.specs.Calls.{callWith, callOf}
+use Rattle.script.specs.Calls.{joinOf, callWith, callOf}
 use Rattle.script.specs.declared.calls.CallLine.{CallLine}
 use Rattle.script.specs.declared.calls.CallLine.the-variants.{Read}
 
@@ -34,3 +37,31 @@ call-long l c e =
     (λ e.
     word-long finishWord l Finish _ c (omega arith) e
     (by-cond (λ r. r ≡ Read c → 5 ≤ length l) (beginsWith joinWord l) (λ p e. omega (arith, not-longer joinWord l p)) (λ p e. clash cc))))
+
+-- a line that is a word of at most eight bytes and a number, or is another line
+number-after-short :
+    (w l : List ℕ) (f : ℕ → Call) (other : CallLine) (c : Call) → length w ≤ 8
+    → callWith (numberAfter maxDigits maxNumber w l) f other ≡ Read c → (other ≡ Read c → length l ≤ 37) → length l ≤ 37
+unfolding numberAfter numberOf callWith
+number-after-short w l f other c h e else =
+    by-cond (λ (n : Number). callWith n f other ≡ Read c → length l ≤ 37) (beginsWith w l)
+    (λ p.
+    by-cond (λ (n : Number). callWith n f other ≡ Read c → length l ≤ 37) (isNumber maxDigits maxNumber (drop (length w) l))
+    (λ n e. omega (arith, number-short maxDigits maxNumber (drop (length w) l) n, length-drop (length w) l))
+    (λ n e. else e))
+    (λ p e. else e) e
+
+pub call-short : (l : List ℕ) (c : Call) → callOf l ≡ Read c → length l ≤ 37
+unfolding callOf joinOf
+call-short l c e =
+    number-after-short slotWord l Slot _ c (omega arith) e
+    (λ e.
+    number-after-short releaseWord l Release _ c (omega arith) e
+    (λ e.
+    number-after-short finishWord l Finish _ c (omega arith) e
+    (by-cond (λ r. r ≡ Read c → length l ≤ 37) (beginsWith joinWord l)
+    (λ p.
+    by-cond (λ r. r ≡ Read c → length l ≤ 37) (areThree maxDigits maxNumber (drop 5 l))
+    (λ n e. omega (arith, three-short maxDigits maxNumber (drop 5 l) n, length-drop 5 l))
+    (λ n e. clash cc))
+    (λ p e. clash cc))))

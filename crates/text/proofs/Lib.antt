@@ -8,5 +8,7 @@ pub mod LineLaws
 pub mod FieldLaws
 pub mod NumbersOn
 pub mod ThreeNumbers
+pub mod Lengths
+pub mod Taken
 pub mod Putting
 pub mod NumbersLine

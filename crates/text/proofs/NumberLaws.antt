@@ -1,5 +1,5 @@
 -- Laws of numbers in base ten. Others cite `up-to` and `not-up-to` (what `numberUpTo` says of a text), `no-other` (a byte that is no digit), `no-limit`
--- (a largest value that is never reached), `digit`, `decimal-append` (one digit more), and the laws of a field that is read up to a space.
+-- (a largest value that is never reached), `number-short`, `digit`, `decimal-append` (one digit more), and the laws of a field read up to a space.
 use Prim.Native.Nat.{ℕ, suc, _+_, _-_, _*_, _^_, _≤_, _<_}
 use native.Mathlib.Nat.{pow-le-pow-right, pow-suc}
 use native.Mathlib.Omega.{arith}
@@ -67,17 +67,26 @@ below n i (x ∷ f) h d =
     let e : i + suc (length f) ≡ suc i + length f = omega arith in
     rw e (below (n * 10 + (x - 48)) (suc i) f (rw (pow-suc 10 i) (omega (arith, g .high))) (and-right (isDigit x) (allDigits f) d))
 
+-- it has at most so many digits
+short : (k : ℕ) (f : List ℕ) → wellFormed k f ≡ true → length f ≤ k
+unfolding wellFormed
+short k f e =
+    let lengths = leb 1 (length f) && leb (length f) k in
+    leb-true (length f) k
+    (and-right (leb 1 (length f)) (leb (length f) k) (and-left lengths (not (leadingZero f)) (and-left (lengths && not (leadingZero f)) (allDigits f) e)))
+
 few-digits : (k : ℕ) (f : List ℕ) → wellFormed k f ≡ true → decimal f < 10 ^ k
 unfolding wellFormed decimal
 few-digits k f e =
-    let lengths = leb 1 (length f) && leb (length f) k in
-    let d = and-right (lengths && not (leadingZero f)) (allDigits f) e in
-    let l = leb-true (length f) k
-    (and-right (leb 1 (length f)) (leb (length f) k) (and-left lengths (not (leadingZero f)) (and-left (lengths && not (leadingZero f)) (allDigits f) e)))
-    in
+    let d = and-right (leb 1 (length f) && leb (length f) k && not (leadingZero f)) (allDigits f) e in
+    let l = short k f e in
     let z : 0 + length f ≡ length f = omega arith in
     let b : decimalFrom 0 f < 10 ^ length f = rw z at (below 0 0 f (omega arith) d) in
     omega (arith, b, pow-le-pow-right {n = 10} (lit< tt) l)
+
+pub number-short : (k largest : ℕ) (f : List ℕ) → isNumber k largest f ≡ true → length f ≤ k
+unfolding isNumber
+number-short k largest f e = short k f (and-left (wellFormed k f) (leb (decimal f) largest) e)
 
 -- where the largest value is that of so many nines, a number is what is well formed
 pub no-limit : (k largest : ℕ) → 10 ^ k ≤ suc largest → (f : List ℕ) → isNumber k largest f ≡ wellFormed k f

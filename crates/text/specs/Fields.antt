@@ -1,10 +1,10 @@
--- Lines of three fields: document 01, "The table as text".
-use Prim.Native.Nat.{ℕ, _+_}
+-- Lines of fields: document 01, "The table as text"; for any number of them docs/HANDBOOK.md, "Probing one call".
+use Prim.Native.Nat.{ℕ, zero, suc, _+_}
 use mathlib.Core.List.{List}
-use mathlib.Core.Bool.{Bool, cond, _&&_}
+use mathlib.Core.Bool.{Bool, true, cond, _&&_}
 use lib.Dec.{eqb}
 use lib.ListN.{length}
-use Rattle.text.specs.Lines.{lineEnd, before, fieldCount, field}
+use Rattle.text.specs.Lines.{lineEnd, space, before, after, fieldCount, field}
 use Rattle.text.specs.Number.{isNumber, decimal}
 use Rattle.text.specs.declared.fields.Fields.{Fields}
 use Rattle.text.specs.declared.fields.Fields.the-variants as Fields
@@ -27,3 +27,12 @@ unfoldable pub threeNumbers : (digits largest : ℕ) → List ℕ → Numbers
 threeNumbers digits largest s =
     let l = before lineEnd s in
     cond (areThree digits largest l) (Numbers.Three (decimal (field 0 l)) (decimal (field 1 l)) (decimal (field 2 l)) (length l)) Numbers.Broken
+
+-- whether each of the first n fields of a line is a number
+unfoldable pub eachNumber : (digits largest n : ℕ) → List ℕ → Bool
+eachNumber digits largest zero l = true
+eachNumber digits largest (suc n) l = isNumber digits largest (field 0 l) && eachNumber digits largest n (after space l)
+
+-- whether a line is n numbers: "Between two fields stands one space"
+unfoldable pub areNumbers : (digits largest n : ℕ) → List ℕ → Bool
+areNumbers digits largest n l = eqb (fieldCount l) n && eachNumber digits largest n l

@@ -1,0 +1,110 @@
+-- "The program reads no more than it needs: a longer text has its first bad line within what it reads": what is printed for the first 4,096 bytes of
+-- a text is what is printed for the text, `cut-same`.
+use Prim.Native.Nat.{ℕ, zero, suc, _+_, _-_, _*_, _≤_, _<_}
+use native.Mathlib.Omega.{arith}
+use mathlib.Core.Path.{_≡_, refl}
+use mathlib.Core.Bool.{Bool, true, and-false}
+use mathlib.Core.List.{List, [], _∷_}
+use lib.ListN.{length, take, drop, length-drop}
+use Rattle.laws.proofs.CaseSplits.{by-test, by-order}
+use Rattle.laws.proofs.Booleans.{and-left, and-right}
+use Rattle.text.specs.Lines.{lineEnd, has, before, after, isEmpty}
+use Rattle.text.specs.Words.{beginsWith}
+use Rattle.text.specs.Fields.{areNumbers}
+use Rattle.text.proofs.Lengths.{numbers-short}
+use Rattle.text.proofs.Taken.{Taken, taken, untaken}
+use Rattle.machine.specs.declared.call.Call.{Call}
+use Rattle.machine.specs.declared.machine.Machine.{Machine}
+use Rattle.script.specs.Numbers.{maxDigits, maxNumber}
+use Rattle.script.specs.Calls.{callOf}
+use Rattle.script.specs.declared.calls.CallLine.{CallLine}
+use Rattle.script.specs.declared.calls.CallLine.the-variants as Line
+use Rattle.script.proofs.CallLaws.{call-short}
+use Rattle.tasks.specs.Limits.{maxTasks}
+use Rattle.probe.specs.Words.{machineWord}
+use Rattle.probe.specs.Input.{firstIs, isMachineLine, countOf, coresOf, emptyMachine, isEntryLine, taskOf, jobOf, withEntry, onlyCall, lastLine}
+use Rattle.probe.specs.Printed.{entriesRead, printed}
+
+-- a first line that has at most b bytes with its byte 10 where it is what it must be
+module _ (must : List ℕ → Bool) (b : ℕ) (short : (l : List ℕ) → must l ≡ true → length l + 1 ≤ b) (k : ℕ) (s : List ℕ) (h : b ≤ k) where
+  first-same : firstIs must (take k s) ≡ firstIs must s
+  unfolding firstIs
+  first-same =
+      by-order k (length (before lineEnd s))
+      (λ l.
+      by-test (must (before lineEnd s))
+      (λ t. absurd (omega (arith, short (before lineEnd s) t)))
+      (λ f. rw (untaken k s l, f, and-false (has lineEnd s))))
+      (λ l. let t = taken k s l in rw (t .is, t .line))
+
+  first-taken : firstIs must s ≡ true → (length (before lineEnd s) + 1 ≤ b) × Taken k s
+  unfolding firstIs
+  first-taken t =
+      let n = short (before lineEnd s) (and-right (has lineEnd s) (must (before lineEnd s)) t) in
+      (n, taken k s (omega arith))
+
+-- the first line has at most 30 bytes, and that of an entry 77
+machine-short : (l : List ℕ) → isMachineLine l ≡ true → length l + 1 ≤ 30
+unfolding isMachineLine
+machine-short l t =
+    let n = numbers-short maxDigits maxNumber 2 (drop 8 l) (and-right (beginsWith machineWord l) (areNumbers maxDigits maxNumber 2 (drop 8 l)) t) in
+    omega (arith, length-drop 8 l)
+
+entry-short : (l : List ℕ) → isEntryLine l ≡ true → length l + 1 ≤ 77
+unfolding isEntryLine
+entry-short l t = numbers-short maxDigits maxNumber 7 l (and-left (areNumbers maxDigits maxNumber 7 l) _ t)
+
+-- of what follows the call only the first byte matters
+empty-same : (j : ℕ) (s : List ℕ) → 0 < j → isEmpty (take j s) ≡ isEmpty s
+unfolding isEmpty
+empty-same zero s h = absurd (omega arith)
+empty-same (suc j) [] h = refl
+empty-same (suc j) (x ∷ s) h = refl
+
+only-same : (c : CallLine) (j : ℕ) (s : List ℕ) → ((call : Call) → c ≡ Line.Read call → 0 < j) → onlyCall c (take j s) ≡ onlyCall c s
+unfolding onlyCall
+only-same (Line.Read call) j s h = rw (empty-same j s (h call refl))
+only-same Line.Bad j s h = refl
+
+only-none : (c : CallLine) (s t : List ℕ) → ((call : Call) → c ≡ Line.Read call → ⊥) → onlyCall c s ≡ onlyCall Line.Bad t
+unfolding onlyCall
+only-none (Line.Read call) s t n = absurd (n call refl)
+only-none Line.Bad s t n = refl
+
+last-same : (k : ℕ) (s : List ℕ) → 39 ≤ k → lastLine (take k s) ≡ lastLine s
+unfolding lastLine onlyCall
+last-same k s h =
+    let l = before lineEnd s in
+    by-order k (length l)
+    (λ m.
+    let none = only-none (callOf l) (after lineEnd s) [] (λ call e. omega (arith, call-short l call e)) in
+    by-test (has lineEnd s) (λ b. rw (untaken k s m, b, none)) (λ b. rw (untaken k s m, b)))
+    (λ m.
+    let t = taken k s m in
+    rw (t .is, t .line, t .rest, only-same (callOf l) (k - (length l + 1)) (after lineEnd s) (λ call e. omega (arith, call-short l call e))))
+
+entries-same : (m : Machine) (i more k : ℕ) (s : List ℕ) → 77 * more + 39 ≤ k → entriesRead m i more (take k s) ≡ entriesRead m i more s
+unfolding entriesRead
+entries-same m i zero k s h = rw (last-same k s (omega arith))
+entries-same m i (suc more) k s h =
+    let l = before lineEnd s in
+    let same = first-same isEntryLine 77 entry-short k s (omega arith) in
+    by-test (firstIs isEntryLine s)
+    (λ b.
+    let (n, t) = first-taken isEntryLine 77 entry-short k s (omega arith) b in
+    rw (same, b, t .line, t .rest) (entries-same (withEntry m i (taskOf l) (jobOf l)) (suc i) more (k - (length l + 1)) (after lineEnd s) (omega arith)))
+    (λ b. rw (same, b))
+
+printed-same : (k : ℕ) (s : List ℕ) → 2533 ≤ k → printed (take k s) ≡ printed s
+unfolding printed
+printed-same k s h =
+    let l = before lineEnd s in
+    let same = first-same isMachineLine 30 machine-short k s (omega arith) in
+    by-test (firstIs isMachineLine s)
+    (λ b.
+    let (n, t) = first-taken isMachineLine 30 machine-short k s (omega arith) b in
+    rw (same, b, t .line, t .rest) (entries-same (emptyMachine (countOf l) (coresOf l)) 0 maxTasks (k - (length l + 1)) (after lineEnd s) (omega arith)))
+    (λ b. rw (same, b))
+
+pub cut-same : (s : List ℕ) → printed (take 4096 s) ≡ printed s
+cut-same s = printed-same 4096 s (omega arith)
