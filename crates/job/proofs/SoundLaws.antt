@@ -1,6 +1,6 @@
 -- What a sound job is: `gap-within`; `closed-numbers`, of a closed one; `open-numbers`, of an open one; `free-closed`, that one without a gap is
--- closed; `was-sound`, that it was sound before change 3 too. The other way round: `closed-sound` and `open-sound`. Jobs that are sound: a fresh one (`fresh-sound`), one that was released (`released-sound`), closed (`ended-sound`) or has passed a slot
--- (`slot-sound`).
+-- closed; `was-sound`, that it was sound before change 3 too. The other way round: `closed-sound` and `open-sound`. Jobs that are sound: a fresh one
+-- (`fresh-sound`), one that was released (`released-sound`), closed (`ended-sound`) or has passed a slot (`slot-sound`).
 use Prim.Native.Nat.{_-_, _≤_}
 use native.Mathlib.Omega.{arith}
 use mathlib.Core.Path.{_≡_, refl, _∙_}

@@ -1,5 +1,5 @@
--- In every machine of every list of calls from a fresh machine an open task has a gap of at least its left, and so above 0 (`open-gap`), and a release of a
--- task whose job is open is refused by 9 (`open-release`): number 10 never came.
+-- In every machine of every list of calls from a fresh machine an open task has a gap of at least its left, and so above 0 (`open-gap`), and a release
+-- of a task whose job is open is refused by 9 (`open-release`): with number 10 after it, 10 would never come.
 use Prim.Native.Nat.{ℕ, _-_, _≤_, _<_}
 use native.Mathlib.Omega.{arith}
 use mathlib.Core.Path.{_≡_}

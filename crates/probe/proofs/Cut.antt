@@ -22,8 +22,8 @@ use Rattle.script.specs.declared.calls.CallLine.the-variants as Line
 use Rattle.script.proofs.CallLaws.{call-short}
 use Rattle.tasks.specs.Limits.{maxTasks}
 use Rattle.probe.specs.Words.{machineWord}
-use Rattle.probe.specs.Input.{firstIs, isMachineLine, countOf, coresOf, emptyMachine, isEntryLine, taskOf, jobOf, withEntry, onlyCall, lastLine}
-use Rattle.probe.specs.Printed.{entriesRead, printed}
+use Rattle.probe.specs.Input.{firstIs, isMachineLine, countOf, coresOf, zeroEntries, isEntryLine, taskOf, jobOf, withEntry, onlyCall, lastLine}
+use Rattle.probe.specs.Printed.{printedFrom, printed}
 
 -- a first line that has at most b bytes with its byte 10 where it is what it must be
 module _ (must : List ℕ → Bool) (b : ℕ) (short : (l : List ℕ) → must l ≡ true → length l + 1 ≤ b) (k : ℕ) (s : List ℕ) (h : b ≤ k) where
@@ -83,8 +83,8 @@ last-same k s h =
     let t = taken k s m in
     rw (t .is, t .line, t .rest, only-same (callOf l) (k - (length l + 1)) (after lineEnd s) (λ call e. omega (arith, call-short l call e))))
 
-entries-same : (m : Machine) (i more k : ℕ) (s : List ℕ) → 77 * more + 39 ≤ k → entriesRead m i more (take k s) ≡ entriesRead m i more s
-unfolding entriesRead
+entries-same : (m : Machine) (i more k : ℕ) (s : List ℕ) → 77 * more + 39 ≤ k → printedFrom m i more (take k s) ≡ printedFrom m i more s
+unfolding printedFrom
 entries-same m i zero k s h = rw (last-same k s (omega arith))
 entries-same m i (suc more) k s h =
     let l = before lineEnd s in
@@ -103,7 +103,7 @@ printed-same k s h =
     by-test (firstIs isMachineLine s)
     (λ b.
     let (n, t) = first-taken isMachineLine 30 machine-short k s (omega arith) b in
-    rw (same, b, t .line, t .rest) (entries-same (emptyMachine (countOf l) (coresOf l)) 0 maxTasks (k - (length l + 1)) (after lineEnd s) (omega arith)))
+    rw (same, b, t .line, t .rest) (entries-same (zeroEntries (countOf l) (coresOf l)) 0 maxTasks (k - (length l + 1)) (after lineEnd s) (omega arith)))
     (λ b. rw (same, b))
 
 pub cut-same : (s : List ℕ) → printed (take 4096 s) ≡ printed s

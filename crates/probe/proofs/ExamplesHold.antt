@@ -7,7 +7,7 @@ use Rattle.text.specs.Fields.{eachNumber, areNumbers}
 use Rattle.text.specs.Output.{furtherNumbers, numbersLine}
 use Rattle.script.specs.Output.{badLine}
 use Rattle.probe.specs.Input.{firstIs, isMachineLine, isEntryLine}
-use Rattle.probe.specs.Printed.{entriesRead, printed}
+use Rattle.probe.specs.Printed.{printedFrom, printed}
 use Rattle.probe.specs.Examples.{exampleText, exampleOutput}
 
 pub example-holds : printed exampleText ≡ exampleOutput
@@ -15,6 +15,6 @@ unfolding
     has before after fieldCount field beginsWith
     isDigit allDigits leadingZero wellFormed decimalFrom decimal isNumber digitsOf decimalText
     eachNumber areNumbers furtherNumbers numbersLine badLine
-    firstIs isMachineLine isEntryLine entriesRead printed
+    firstIs isMachineLine isEntryLine printedFrom printed
     exampleText exampleOutput
 example-holds = refl

@@ -17,7 +17,7 @@ use Rattle.tasks.specs.declared.task.Task.{Task}
 use Rattle.job.specs.declared.job.Job.{Job}
 use Rattle.machine.specs.declared.machine.Machine.{Machine}
 use Rattle.probe.specs.Input.{firstIs, isEntryLine, taskOf, jobOf, withEntry, entryOf, lastLine}
-use Rattle.probe.specs.Printed.{callRead, entriesRead}
+use Rattle.probe.specs.Printed.{printedFor, printedFrom}
 use Rattle.probe.specs.declared.input.Asked.{Asked}
 use Rattle.probe.specs.declared.input.Asked.the-variants as Asked
 use Rattle.probe.specs.declared.input.EntryLine.the-variants.{Read, Bad}
@@ -49,15 +49,15 @@ refused s = by-cond (λ r. r ≡ Bad → firstIs isEntryLine s ≡ false) (first
 pub record Filling (m : Machine) (s : List ℕ) (m' : Machine) (place i : ℕ) : Type 0 where
   pub few : i ≤ maxTasks
   pub within : place ≤ length s
-  pub left : entriesRead m 0 maxTasks s ≡ entriesRead m' i (maxTasks - i) (drop place s)
+  pub left : printedFrom m 0 maxTasks s ≡ printedFrom m' i (maxTasks - i) (drop place s)
 
 pub fill-none : (m : Machine) (s : List ℕ) → Filling m s m 0 0
 fill-none m s = record { few = omega arith; within = omega arith; left = refl }
 
 module _ (m : Machine) (s : List ℕ) (m' : Machine) (place i : ℕ) (p : Filling m s m' place i) where
   -- all entries were read, and the line of the call follows
-  pub filled : maxTasks ≤ i → (a : Asked) → a ≡ lastLine (from s place) → entriesRead m 0 maxTasks s ≡ callRead m' a
-  unfolding entriesRead
+  pub filled : maxTasks ≤ i → (a : Asked) → a ≡ lastLine (from s place) → printedFrom m 0 maxTasks s ≡ printedFor m' a
+  unfolding printedFrom
   filled h a e =
       let z : maxTasks - i ≡ 0 = omega arith in
       p .left ∙ rw (z, e, from-drop s place)
@@ -66,8 +66,8 @@ module _ (m : Machine) (s : List ℕ) (m' : Machine) (place i : ℕ) (p : Fillin
     another : maxTasks - i ≡ suc (maxTasks - (i + 1))
     another = omega arith
 
-    pub no-entry : entryOf (from s place) ≡ Bad → entriesRead m 0 maxTasks s ≡ callRead m' (Asked.Bad (i + 2))
-    unfolding entriesRead callRead
+    pub no-entry : entryOf (from s place) ≡ Bad → printedFrom m 0 maxTasks s ≡ printedFor m' (Asked.Bad (i + 2))
+    unfolding printedFrom printedFor
     no-entry b = p .left ∙ rw (another, refused (drop place s) (rw (from-drop s place) at b))
 
     module _ (t : Task) (j : Job) (n : ℕ) (e : entryOf (from s place) ≡ Read t j n) where
@@ -78,7 +78,7 @@ module _ (m : Machine) (s : List ℕ) (m' : Machine) (place i : ℕ) (p : Fillin
       fits = omega (arith, p .within, entry .within, length-drop place s)
 
       pub fill-more : Filling m s (withEntry m' i t j) (place + n) (i + 1)
-      unfolding entriesRead
+      unfolding printedFrom
       fill-more =
           record {
             few = omega arith;

@@ -42,9 +42,9 @@ countOf l = decimal (field 0 (drop (length machineWord) l))
 unfoldable pub coresOf : List ℕ → ℕ
 coresOf l = decimal (field 1 (drop (length machineWord) l))
 
--- a machine before its entries are read: they are all zero
-unfoldable pub emptyMachine : (count cores : ℕ) → Machine
-emptyMachine count cores =
+-- the machine of this count and these cores before its entries are read: they are all zero
+unfoldable pub zeroEntries : (count cores : ℕ) → Machine
+zeroEntries count cores =
     record { table = record { count = count; tasks = replicate maxTasks zeroTask }; cores = cores; jobs = replicate maxTasks freshJob }
 
 -- "seven numbers `PERIOD BUDGET DEADLINE OPEN LEFT OWED GAP`", where "OPEN is 0 or 1"
@@ -64,7 +64,8 @@ unfoldable pub withEntry : Machine → ℕ → Task → Job → Machine
 withEntry m i t j =
     record { table = record { count = m .table .count; tasks = set (m .table .tasks) i t }; cores = m .cores; jobs = set (m .jobs) i j }
 
--- what the first line of a text says, and how many bytes it has with its byte 10
+-- for the contracts of two private functions: what the first line of a text says, as the machine's and as an entry's, and how many bytes it has with its
+-- byte 10
 unfoldable pub firstLine : List ℕ → FirstLine
 firstLine s =
     let l = before lineEnd s in cond (firstIs isMachineLine s) (First.Read (countOf l) (coresOf l) (length l + 1)) First.Bad

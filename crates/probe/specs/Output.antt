@@ -31,6 +31,6 @@ entryRoom = 77
 abbrev pub entriesRoom : ℕ
 entriesRoom = 2464
 
--- for all lines of a machine: 40 more, as the first has a word of 8, a count of at most 20 digits, cores of ten, and a byte after each
+-- for all lines of a machine: 40 more for the first, its word with the space, a count of at most 20 digits, cores of ten, and a byte after either
 abbrev pub machineRoom : ℕ
 machineRoom = 2504

@@ -8,7 +8,7 @@ use Rattle.machine.specs.Calls.{step}
 use Rattle.machine.specs.declared.machine.Machine.{Machine}
 use Rattle.machine.specs.declared.call.Call.{Call}
 use Rattle.script.specs.Output.{badLine, answerLine}
-use Rattle.probe.specs.Input.{firstIs, isMachineLine, countOf, coresOf, emptyMachine, isEntryLine, taskOf, jobOf, withEntry, lastLine}
+use Rattle.probe.specs.Input.{firstIs, isMachineLine, countOf, coresOf, zeroEntries, isEntryLine, taskOf, jobOf, withEntry, lastLine}
 use Rattle.probe.specs.Output.{machineLines}
 use Rattle.probe.specs.declared.input.Asked.{Asked}
 use Rattle.probe.specs.declared.input.Asked.the-variants.{Read, Bad}
@@ -18,23 +18,23 @@ unfoldable pub shown : Machine → Call → List ℕ
 shown m call = answerLine call (step m call) ++ machineLines (step m call .machine)
 
 -- what is printed once the machine is read, by the call's line: "Anything else prints `BAD LINE n` alone"
-unfoldable pub callRead : Machine → Asked → List ℕ
-callRead m (Read call) = shown m call
-callRead m (Bad n) = badLine n
+unfoldable pub printedFor : Machine → Asked → List ℕ
+printedFor m (Read call) = shown m call
+printedFor m (Bad n) = badLine n
 
 -- what is printed where so many entries of the machine, from the index i on, are still to be read from a text, whose first line has the number i + 2
-unfoldable pub entriesRead : Machine → (i more : ℕ) → List ℕ → List ℕ
-entriesRead m i zero s = callRead m (lastLine s)
-entriesRead m i (suc more) s =
+unfoldable pub printedFrom : Machine → (i more : ℕ) → List ℕ → List ℕ
+printedFrom m i zero s = printedFor m (lastLine s)
+printedFrom m i (suc more) s =
     let l = before lineEnd s in
-    cond (firstIs isEntryLine s) (entriesRead (withEntry m i (taskOf l) (jobOf l)) (suc i) more (after lineEnd s)) (badLine (i + 2))
+    cond (firstIs isEntryLine s) (printedFrom (withEntry m i (taskOf l) (jobOf l)) (suc i) more (after lineEnd s)) (badLine (i + 2))
 
 -- what is printed for a text: "n, counted from 1, is the first line that is not what it must be, is not ended, or is missing"
 unfoldable pub printed : List ℕ → List ℕ
 printed s =
     let l = before lineEnd s in
-    cond (firstIs isMachineLine s) (entriesRead (emptyMachine (countOf l) (coresOf l)) 0 maxTasks (after lineEnd s)) (badLine 1)
+    cond (firstIs isMachineLine s) (printedFrom (zeroEntries (countOf l) (coresOf l)) 0 maxTasks (after lineEnd s)) (badLine 1)
 
--- the room that an array needs for it: 44 bytes for the line of an answer, and those for a machine's lines
+-- bytes that are enough for it: 44 for the line of an answer, and those for a machine's lines
 abbrev pub room : ℕ
 room = 2548

@@ -15,8 +15,8 @@ use text::bytes;
 ghost use Prim.Native.Nat.{_<_};
 ghost use mathlib.Core.Path.{_≡_};
 ghost use Rattle.tasks.specs.Limits.{maxTasks};
-ghost use Rattle.probe.specs.Input.{firstLine, emptyMachine, entryOf, withEntry, lastLine};
-ghost use Rattle.probe.specs.Printed.{callRead, entriesRead, printed};
+ghost use Rattle.probe.specs.Input.{firstLine, zeroEntries, entryOf, withEntry, lastLine};
+ghost use Rattle.probe.specs.Printed.{printedFor, printedFrom, printed};
 
 // The line of the count and the cores.
 enum FirstLine {
@@ -70,8 +70,8 @@ fn first_line(text: &[u8]) -> FirstLine
 }
 
 // A machine before its entries are read.
-fn empty_machine(count: u32, cores: u32) -> Machine
-    ensures { λ r. ⌜ r ≡ emptyMachine count cores ⌝ }
+fn zero_entries(count: u32, cores: u32) -> Machine
+    ensures { λ r. ⌜ r ≡ zeroEntries count cores ⌝ }
 {
     let mut table = Table::empty();
     table.count = count as usize;
@@ -145,7 +145,7 @@ fn last_line(text: &[u8]) -> Asked
 
 // Reads the lines after the first: the entries of the machine, and the call.
 fn read_entries(text: &[u8], mut machine: Machine) -> Input
-    ensures { λ r. ⌜ entriesRead machine 0 maxTasks (now (text .entry)) ≡ callRead (r .machine) (r .asked) ⌝ }
+    ensures { λ r. ⌜ printedFrom machine 0 maxTasks (now (text .entry)) ≡ printedFor (r .machine) (r .asked) ⌝ }
 {
     let mut at: usize = 0;
     let mut i: usize = 0;
@@ -166,7 +166,7 @@ fn read_entries(text: &[u8], mut machine: Machine) -> Input
 
 // Reads a text.
 pub fn read(text: &[u8]) -> Input
-    ensures { λ r. ⌜ printed (now (text .entry)) ≡ callRead (r .machine) (r .asked) ⌝ }
+    ensures { λ r. ⌜ printed (now (text .entry)) ≡ printedFor (r .machine) (r .asked) ⌝ }
 {
     let FirstLine::Read {
         count,
@@ -174,11 +174,11 @@ pub fn read(text: &[u8]) -> Input
         length,
     } = first_line(text)
     else {
-        let machine = empty_machine(0, 0);
+        let machine = zero_entries(0, 0);
         return Input {
             machine,
             asked: Asked::Bad(1),
         };
     };
-    read_entries(&text[length..], empty_machine(count, cores))
+    read_entries(&text[length..], zero_entries(count, cores))
 }

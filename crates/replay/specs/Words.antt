@@ -1,4 +1,4 @@
--- The words of a script that are in no call.
+-- The words of a script that are in no call and no table.
 use Prim.Native.Nat.{ℕ}
 use mathlib.Core.List.{List, [], _∷_}
 

@@ -1,4 +1,4 @@
--- The limits of a script's numbers (docs/HANDBOOK.md, "Replaying calls"): "numbers of 1 to 10 digits without a leading zero, at most
+-- The limits of the numbers of scripts, and of probe's texts (docs/HANDBOOK.md, "Replaying calls"): "numbers of 1 to 10 digits without a leading zero, at most
 -- 4,294,967,295"; as in a table, 0 alone is well formed.
 use Prim.Native.Nat.{ℕ}
 

@@ -13,7 +13,7 @@ use Rattle.machine.specs.declared.answer.Report.{Report}
 use Rattle.machine.specs.Mask.{mask}
 use Rattle.script.specs.Words.{doneWord, badLineWord}
 
--- "A line that is no call prints `BAD LINE n`", and so does any other line that is not what it must be, and the place of a line that is missing
+-- "A line that is no call prints `BAD LINE n`", and so does each other line that replay and probe tell by its number
 unfoldable pub badLine : ℕ → List ℕ
 badLine n = badLineWord ++ numbersLine (n ∷ [])
 

@@ -1,4 +1,4 @@
--- The words of calls and of their answers.
+-- The words of calls and of what is printed for them, but for `REFUSED`, which stands in text.
 use Prim.Native.Nat.{ℕ}
 use mathlib.Core.List.{List, [], _∷_}
 

@@ -28,11 +28,11 @@ threeNumbers digits largest s =
     let l = before lineEnd s in
     cond (areThree digits largest l) (Numbers.Three (decimal (field 0 l)) (decimal (field 1 l)) (decimal (field 2 l)) (length l)) Numbers.Broken
 
--- whether each of the first n fields of a line is a number
+-- whether each of the first n fields of a line is a number, of at most so many digits and at most `largest`
 unfoldable pub eachNumber : (digits largest n : ℕ) → List ℕ → Bool
 eachNumber digits largest zero l = true
 eachNumber digits largest (suc n) l = isNumber digits largest (field 0 l) && eachNumber digits largest n (after space l)
 
--- whether a line is n numbers: "Between two fields stands one space"
+-- whether a line is n such numbers: "Between two fields stands one space"
 unfoldable pub areNumbers : (digits largest n : ℕ) → List ℕ → Bool
 areNumbers digits largest n l = eqb (fieldCount l) n && eachNumber digits largest n l

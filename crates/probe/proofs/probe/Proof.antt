@@ -2,12 +2,12 @@
 use native.Mathlib.Omega.{arith}
 use borrow.Author.Needs.{needs}
 use Rattle.script.proofs.OutputLaws.{line-all}
-use Rattle.probe.specs.Printed.{callRead}
+use Rattle.probe.specs.Printed.{printedFor}
 use Rattle.probe.proofs.probe.Statement.{statement}
 use Rattle.probe.proofs.probe.Tie as tie
 
 returns : tie.Need-returns
-unfolding callRead
+unfolding printedFor
 returns c =
     let p = c .before .before in
     let a = p .before .before .before in
@@ -15,7 +15,7 @@ returns c =
     rw (r .read .ensures, a .asked .given .1) (line-all _ _ _ _ _ (omega (arith, r .before .before .before .pre)) (p .put-bad-line .ensures))
 
 returns-2 : tie.Need-returns-2
-unfolding callRead
+unfolding printedFor
 returns-2 c =
     let p = c .before .before in
     let a = p .before .before .before in

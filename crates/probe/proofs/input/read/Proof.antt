@@ -23,7 +23,7 @@ part-read-entries-start c = first-line (c .before) .within
 returns-2 : tie.Need-returns-2
 returns-2 c =
     let b = c .before in
-    first-line (b .before .before .before) .is ∙ rw (b .empty-machine2 .ensures) at (c .read-entries .ensures)
+    first-line (b .before .before .before) .is ∙ rw (b .zero-entries2 .ensures) at (c .read-entries .ensures)
 
 pub read-spec : {M : Type 1} → statement M
 read-spec =
