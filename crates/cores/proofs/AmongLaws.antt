@@ -1,0 +1,51 @@
+-- Which numbers are among those of a list. Others cite: `some-inside`, that past its end a list reads as 0; `among-index` and `among-at`, by an index; `among-set`, after an entry that was 0 or the same is
+-- set; and `among-more`, with one more at the end.
+use Prim.Native.Nat.{ℕ, zero, suc, _≤_, _<_}
+use mathlib.Core.Path.{_≡_, refl, _∙_}
+use mathlib.Core.List.{List, [], _∷_, _++_}
+use mathlib.Core.Bool.{Bool, true, false, _||_, or-assoc, or-true, or-comm}
+use mathlib.Core.Logic.{_⊎_, inl, inr}
+use native.Mathlib.Omega.{arith}
+use lib.Dec.{eqb}
+use lib.ListN.{length, getD, set, List·getD-eq-default}
+use borrow.Author.Tests.{eqb-true, eq-eqb, ne-eqb}
+use Rattle.laws.proofs.CaseSplits.{by-test, by-order, not-both}
+use Rattle.cores.specs.Assign.{isAmong}
+
+pub some-inside : (l : List ℕ) (i : ℕ) → 1 ≤ getD l i 0 → i < length l
+some-inside l i some =
+    by-order (length l) i
+    (λ past. let none : getD l i 0 ≡ 0 = List·getD-eq-default l 0 past in absurd (omega arith))
+    (λ h. h)
+
+pub among-at : (l : List ℕ) (i n : ℕ) → i < length l → getD l i 0 ≡ n → isAmong l n ≡ true
+unfolding isAmong
+among-at [] i n h e = absurd (omega arith)
+among-at (x ∷ l) zero n h e = rw (eq-eqb x n e)
+among-at (x ∷ l) (suc i) n h e = rw (among-at l i n (omega arith) e, or-true)
+
+pub among-index : (l : List ℕ) (n : ℕ) → isAmong l n ≡ true → (i : ℕ) × (i < length l) × (getD l i 0 ≡ n)
+unfolding isAmong
+among-index [] n e = not-both false e refl
+among-index (x ∷ l) n e =
+    by-test (eqb x n)
+    (λ t. (0, omega arith, eqb-true x n t))
+    (λ f. let (i, inside, is) = among-index l n (rw f at e) in (suc i, omega arith, is))
+
+-- a number from 1 on is among the list after a 0, or the same number, is replaced by c, if it was before or is c
+pub among-set :
+    (l : List ℕ) (i c n : ℕ) → i < length l → (getD l i 0 ≡ 0) ⊎ (getD l i 0 ≡ c) → 1 ≤ n
+    → isAmong (set l i c) n ≡ (eqb c n || isAmong l n)
+unfolding isAmong
+among-set [] i c n h was some = absurd (omega arith)
+among-set (x ∷ l) zero c n h (inl e) some =
+    let no : eqb x n ≡ false = ne-eqb x n (λ s. omega arith) in
+    rw no
+among-set (x ∷ l) zero c n h (inr e) some = rw e (by-test (eqb c n) (λ t. rw t) (λ f. rw f))
+among-set (x ∷ l) (suc i) c n h was some =
+    rw (among-set l i c n (omega arith) was some) (by-test (eqb c n) (λ t. rw (t, or-true)) (λ f. rw f))
+
+pub among-more : (l : List ℕ) (x n : ℕ) → isAmong (l ++ x ∷ []) n ≡ (isAmong l n || eqb x n)
+unfolding isAmong
+among-more [] x n = or-comm (eqb x n) false
+among-more (y ∷ l) x n = rw (among-more l x n) (by-test (eqb y n) (λ t. rw t) (λ f. rw f))

@@ -1,0 +1,44 @@
+-- A flag for each core that a task has, after a task's core is set: `flag-set`, and `flag-far` of a core that has no flag.
+use Prim.Native.Nat.{ℕ, _≤_, _<_}
+use mathlib.Core.Path.{_≡_, sym, _∙_}
+use mathlib.Core.List.{List}
+use mathlib.Core.Bool.{Bool, true, false}
+use mathlib.Core.Logic.{_⊎_}
+use native.Mathlib.Omega.{arith}
+use lib.ListN.{length, getD, set, length-set}
+use lib.Seq.{getD-set-same, getD-set-other}
+use borrow.Author.Tests.{eq-eqb, ne-eqb}
+use Rattle.laws.proofs.CaseSplits.{by-equal}
+use Rattle.tasks.specs.Limits.{maxTasks}
+use Rattle.cores.specs.Assign.{isAmong}
+use Rattle.cores.specs.Used.{Flagged}
+use Rattle.cores.proofs.AmongLaws.{among-set}
+
+-- the entry that is set was 0, or the same core
+module _
+    (cores : List ℕ)
+    (used : List Bool)
+    (f : Flagged cores used)
+    (i c : ℕ)
+    (h : i < length cores)
+    (was : (getD cores i 0 ≡ 0) ⊎ (getD cores i 0 ≡ c))
+  where
+    -- a core other than the new one
+    other : (x : ℕ) → 1 ≤ x → (x ≡ c → ⊥) → isAmong (set cores i c) x ≡ isAmong cores x
+    other x some ne = among-set cores i c x h was some ∙ rw (ne-eqb c x (λ e. ne (sym e)))
+
+    pub flag-set : c ≤ maxTasks → Flagged (set cores i c) (set used c true)
+    flag-set fits =
+        record {
+          all-flags = length-set used c true ∙ f .all-flags;
+          flag = λ x some small.
+              by-equal x c
+              (λ e.
+              let new : isAmong (set cores i c) x ≡ true = among-set cores i c x h was some ∙ rw (eq-eqb c x (sym e)) in
+              rw (new, e) (getD-set-same used c true false (omega (arith, f .all-flags))))
+              (λ ne. getD-set-other used c x true false ne ∙ f .flag x some small ∙ sym (other x some ne));
+        }
+
+    pub flag-far : maxTasks < c → Flagged (set cores i c) used
+    flag-far far =
+        record { all-flags = f .all-flags; flag = λ x some small. f .flag x some small ∙ sym (other x some (λ e. omega arith)) }

@@ -1,0 +1,9 @@
+pub mod AmongLaws
+pub mod RecordLaws
+pub mod UnusedLaws
+pub mod KeptLaws
+pub mod AssignLaws
+pub mod Flags
+pub mod Keeping
+pub mod Taking
+pub mod Seen

@@ -1,0 +1,88 @@
+// Which core each runner of a slot has.
+use tasks::limits::MAX_TASKS;
+ghost use Prim.Native.Nat.{min};
+ghost use mathlib.Core.Path.{_≡_};
+ghost use mathlib.Core.Bool.{false};
+ghost use lib.ListN.{getD};
+ghost use Rattle.cores.specs.Assign.{keptCore, firstUnused, assignment};
+ghost use Rattle.cores.specs.Used.{KeptCores};
+
+// A flag for 0 and for as many cores as there are tasks: while a task has none, one of these is unused.
+const FLAGS: usize = 33;
+
+// The core of each task, and a flag for each core that a task has.
+struct Cores {
+    cores: [u32; MAX_TASKS],
+    used: [bool; FLAGS],
+}
+
+// The core that a runner keeps, by its recorded one: 0 where it keeps none.
+fn kept_core(recorded: u32, available: u32) -> u32
+    ensures { λ r. ⌜ r ≡ keptCore recorded available ⌝ }
+{
+    if recorded <= available {
+        return recorded;
+    }
+    0
+}
+
+// The cores of the runners that keep theirs.
+fn kept(recorded: [u32; MAX_TASKS], runners: &[usize], available: u32) -> Cores
+    ensures { λ r. ⌜ KeptCores recorded available (now (runners .entry)) (r .cores) (r .used) ⌝ }
+{
+    let mut cores = [0u32; MAX_TASKS];
+    let mut used = [false; FLAGS];
+    let mut n = runners.len();
+    while 0 < n {
+        n -= 1;
+        let i = runners[n];
+        if i < MAX_TASKS {
+            let core = kept_core(recorded[i], available);
+            cores[i] = core;
+            if (core as usize) < FLAGS {
+                used[core as usize] = true;
+            }
+        }
+    }
+    Cores { cores, used }
+}
+
+// The lowest core that is not used, of those that have a flag: 0 where there is none up to the number available.
+fn first_unused(used: [bool; FLAGS], available: u32) -> usize
+    ensures { λ r. ⌜ r ≡ firstUnused (λ core. getD used core false) 1 (min available 32) ⌝ }
+{
+    let mut core: usize = 1;
+    while core < FLAGS {
+        if (available as usize) < core {
+            return 0;
+        }
+        if !used[core] {
+            return core;
+        }
+        core += 1;
+    }
+    0
+}
+
+// The core of each runner of a slot, 0 for every other task: every runner keeps its recorded core if it is among those available, and then the
+// others, in precedence, take the unused ones in rising number. The runners are named by their indexes, in precedence.
+pub fn assign(recorded: [u32; MAX_TASKS], runners: &[usize], available: u32) -> [u32; MAX_TASKS]
+    ensures { λ r. ⌜ r ≡ assignment recorded available (now (runners .entry)) ⌝ }
+{
+    let start = kept(recorded, runners, available);
+    let mut cores = start.cores;
+    let mut used = start.used;
+    let mut n: usize = 0;
+    while n < runners.len() {
+        let i = runners[n];
+        n += 1;
+        if i < MAX_TASKS {
+            if cores[i] == 0 {
+                let core = first_unused(used, available);
+                cores[i] = core as u32;
+                used[core] = true;
+            }
+        }
+    }
+    cores
+}
