@@ -25,12 +25,15 @@ struct machine {
     struct table table;
     uint32_t cores;
     struct job jobs[MAX_TASKS];
+    /* The core of each task in the last accepted slot, from 1; 0 is none. */
+    uint32_t assigned[MAX_TASKS];
 };
 
 struct report {
     bool ran[MAX_TASKS];
     bool finished[MAX_TASKS];
     bool late[MAX_TASKS];
+    uint32_t assigned[MAX_TASKS];
     uint32_t runners;
 };
 
@@ -49,10 +52,16 @@ static bool sound(const struct machine *machine)
     size_t count = machine->table.count;
     if (count < 1 || count > MAX_TASKS || machine->cores < 1 || machine->cores > MAX_CORES)
         return false;
+    uint32_t seen = 0;
     for (size_t i = 0; i < count; i++) {
         const struct task *task = &machine->table.tasks[i];
         if (!task_in_range(task) || !job_sound(&machine->jobs[i], task))
             return false;
+        uint32_t core = machine->assigned[i];
+        if (core > MAX_CORES || (seen >> core & 1))
+            return false;
+        /* Bit 0 stays clear: any number of tasks may have no core. */
+        seen |= (UINT32_C(1) << core) & ~UINT32_C(1);
     }
     return true;
 }
@@ -98,16 +107,40 @@ static size_t next_runner(const struct machine *machine, const bool *picked)
     return best;
 }
 
-/* Marks the tasks that run on so many cores, and gives their number. */
-static uint32_t pick(const struct machine *machine, uint32_t cores, bool *ran)
+/* Marks the tasks that run on so many cores, lists them in precedence, and gives their number. */
+static uint32_t pick(const struct machine *machine, uint32_t cores, bool *ran, size_t *order)
 {
     uint32_t open = 0;
     for (size_t i = 0; i < machine->table.count; i++)
         open += machine->jobs[i].open;
     uint32_t wanted = open < cores ? open : cores;
-    for (uint32_t found = 0; found < wanted; found++)
-        ran[next_runner(machine, ran)] = true;
+    for (uint32_t found = 0; found < wanted; found++) {
+        size_t next = next_runner(machine, ran);
+        ran[next] = true;
+        order[found] = next;
+    }
     return wanted;
+}
+
+/* Gives each runner its core, in an array of zeros. All that keep theirs come first, so that no
+ * other runner takes it; the others take the unused cores in rising number. */
+static void assign(const struct machine *machine, uint32_t cores, const size_t *order,
+                   uint32_t runners, uint32_t *assigned)
+{
+    uint32_t unused = (UINT32_C(2) << cores) - 2; /* Bit n is core n, from 1. */
+    for (uint32_t i = 0; i < runners; i++) {
+        uint32_t core = machine->assigned[order[i]];
+        if (core <= cores) {
+            assigned[order[i]] = core;
+            unused &= ~(UINT32_C(1) << core);
+        }
+    }
+    for (uint32_t i = 0; i < runners; i++) {
+        if (assigned[order[i]] == 0) {
+            assigned[order[i]] = (uint32_t)__builtin_ctz(unused);
+            unused &= unused - 1;
+        }
+    }
 }
 
 /* Steps 2 to 4 of a slot for one task. */
@@ -135,9 +168,13 @@ static void slot(struct machine *machine, uint32_t cores, struct report *report)
         return;
     if (cores < machine->cores || cores > MAX_CORES)
         return;
-    report->runners = pick(machine, cores, report->ran);
-    for (size_t i = 0; i < machine->table.count; i++)
+    size_t order[MAX_CORES];
+    report->runners = pick(machine, cores, report->ran, order);
+    assign(machine, cores, order, report->runners, report->assigned);
+    for (size_t i = 0; i < machine->table.count; i++) {
         pass(&machine->jobs[i], report->ran[i], &report->finished[i], &report->late[i]);
+        machine->assigned[i] = report->assigned[i];
+    }
 }
 
 static uint64_t mask(const bool *named)
@@ -146,6 +183,18 @@ static uint64_t mask(const bool *named)
     for (size_t i = MAX_TASKS; i-- > 0;)
         sum = named[i] + 2 * sum;
     return sum;
+}
+
+/* The sum of (32 - i) times the core at index i, as running totals. */
+static uint64_t cores_number(const uint32_t *assigned)
+{
+    uint64_t running = 0;
+    uint64_t number = 0;
+    for (size_t i = 0; i < MAX_TASKS; i++) {
+        running += assigned[i];
+        number += running;
+    }
+    return number;
 }
 
 static uint64_t folded(uint64_t sum, uint64_t number)
@@ -162,8 +211,10 @@ static uint64_t play(struct machine *machine)
             if (machine->jobs[i].gap == 0 && !machine->jobs[i].open)
                 release(machine, i + 1);
         slot(machine, machine->cores, &report);
-        sum =
-            folded(folded(folded(sum, mask(report.ran)), mask(report.finished)), mask(report.late));
+        sum = folded(sum, mask(report.ran));
+        sum = folded(sum, mask(report.finished));
+        sum = folded(sum, mask(report.late));
+        sum = folded(sum, cores_number(report.assigned));
     }
     return sum;
 }

@@ -1,17 +1,19 @@
 //! One field of a sound machine changed to a value at the edge of a clause of
-//! number 0 (document 01, "Why a call is not carried out", with change 3 of
+//! number 0 (document 01, "Why a call is not carried out", with changes 3 and 4 of
 //! document 02), on either side of it.
 
 use crate::probe::{Entry, HandMade};
 use crate::random::Random;
 use crate::tasks::{LONGEST_PERIOD, MOST_CORES, MOST_TASKS};
 
-use Field::{Budget, Deadline, Gap, Left, Owed, Period};
+use Field::{Budget, Core, Deadline, Gap, Left, Owed, Period};
+use Sharers::{Ends, Neighbours, OnePastTheCount, Three, Two};
 use Whose::{Any, Closed, Open};
 
-/// Every change there is: the fields of a task, OPEN, the count, m, and an entry
-/// past the count.
-pub const CHANGES: usize = EDGES.len() + FLIPS.len() + COUNTS.len() + CORES.len() + PAST;
+/// Every change there is: the fields of a task, OPEN, the count, m, a core recorded
+/// twice, and an entry past the count.
+pub const CHANGES: usize =
+    EDGES.len() + FLIPS.len() + COUNTS.len() + CORES.len() + SHARED.len() + PAST;
 
 // The tasks of which one gets the change.
 #[derive(Clone, Copy)]
@@ -29,12 +31,23 @@ enum Field {
     Left,
     Owed,
     Gap,
+    Core,
+}
+
+// Those for which one core is recorded.
+#[derive(Clone, Copy)]
+enum Sharers {
+    Two,
+    Neighbours,
+    Ends,
+    Three,
+    OnePastTheCount,
 }
 
 // A field of a task's entry and its new value, from the entry as it was.
 type Edge = (Whose, Field, fn(&Entry) -> u32);
 
-const EDGES: [Edge; 51] = [
+const EDGES: [Edge; 59] = [
     // A gap is at most T.
     (Open, Gap, |entry| entry.task.period),
     (Open, Gap, |entry| entry.task.period + 1),
@@ -92,6 +105,15 @@ const EDGES: [Edge; 51] = [
     (Any, Period, |_| u32::MAX),
     (Any, Period, |entry| entry.job.gap),
     (Any, Period, |entry| entry.job.gap.wrapping_sub(1)),
+    // A recorded core is at most 16. A cut to fewer bits would bring some back.
+    (Any, Core, |_| 0),
+    (Open, Core, |_| MOST_CORES),
+    (Closed, Core, |_| MOST_CORES),
+    (Open, Core, |_| MOST_CORES + 1),
+    (Closed, Core, |_| MOST_CORES + 1),
+    (Any, Core, |_| 32),
+    (Any, Core, |_| 256 + 1),
+    (Any, Core, |_| u32::MAX),
 ];
 
 // A job that is closed with its numbers, and one that is opened without any.
@@ -109,13 +131,22 @@ const COUNTS: [fn(u32) -> u32; 7] = [
 
 const CORES: [u32; 5] = [0, 1, MOST_CORES, MOST_CORES + 1, u32::MAX];
 
+// One core is recorded for no two tasks of the table.
+const SHARED: [Sharers; 6] = [Two, Two, Neighbours, Ends, Three, OnePastTheCount];
+
 // Changes past the count, each to any entry there.
 const PAST: usize = 3;
 
 /// Makes one of the changes to a sound machine. Gives the number of the task that
 /// was changed, or 0.
 pub fn change(random: &mut Random, machine: &mut HandMade, which: usize) -> u32 {
-    let kinds = [EDGES.len(), FLIPS.len(), COUNTS.len(), CORES.len()];
+    let kinds = [
+        EDGES.len(),
+        FLIPS.len(),
+        COUNTS.len(),
+        CORES.len(),
+        SHARED.len(),
+    ];
     let mut which = which;
     for (kind, kinds) in kinds.into_iter().enumerate() {
         if which < kinds {
@@ -134,10 +165,11 @@ fn change_of_kind(random: &mut Random, machine: &mut HandMade, kind: usize, whic
             machine.count = COUNTS[which](machine.count);
             0
         }
-        _ => {
+        3 => {
             machine.cores = CORES[which];
             0
         }
+        _ => share(random, machine, SHARED[which]),
     }
 }
 
@@ -157,13 +189,54 @@ fn flip(random: &mut Random, machine: &mut HandMade, whose: Whose) -> u32 {
     number(index)
 }
 
+// Records one core for these entries and for no other task. In a table of one task
+// it is recorded for that one alone.
+fn share(random: &mut Random, machine: &mut HandMade, sharers: Sharers) -> u32 {
+    let sharing = sharing(random, machine, sharers);
+    let held = sharing.iter().map(|index| machine.entries[*index].job.core);
+    let held = held.filter(|core| *core <= MOST_CORES).max().unwrap_or(0);
+    let core = match held {
+        0 => random.between(1, MOST_CORES),
+        held => held,
+    };
+    let tasks = machine.tasks().expect("a sound machine");
+    for entry in &mut machine.entries[..tasks] {
+        if entry.job.core == core {
+            entry.job.core = 0;
+        }
+    }
+    for index in &sharing {
+        machine.entries[*index].job.core = core;
+    }
+    sharing.first().map_or(0, |index| number(*index))
+}
+
+// The places of different entries, of tasks but for one past the count.
+fn sharing(random: &mut Random, machine: &HandMade, sharers: Sharers) -> Vec<usize> {
+    let tasks = machine.tasks().expect("a sound machine");
+    let one = random.below(tasks);
+    let other = (one + 1 + random.below(tasks.max(2) - 1)) % tasks;
+    let mut sharing = match sharers {
+        Two => vec![one, other],
+        Neighbours => vec![one, (one + 1) % tasks],
+        Ends => vec![0, tasks - 1],
+        Three => vec![one, other, random.below(tasks)],
+        OnePastTheCount if tasks < MOST_TASKS => {
+            vec![one, tasks + random.below(MOST_TASKS - tasks)]
+        }
+        OnePastTheCount => Vec::new(),
+    };
+    sharing.dedup();
+    sharing
+}
+
 // No part of the machine: the change may change nothing but itself.
 fn change_past(random: &mut Random, machine: &mut HandMade) -> u32 {
     let tasks = machine.tasks().expect("a sound machine");
     if tasks < MOST_TASKS {
         let index = tasks + random.below(MOST_TASKS - tasks);
-        let field = random.pick(&[Period, Budget, Deadline, Left, Owed, Gap]);
-        let value = random.pick(&[0, 1, LONGEST_PERIOD, LONGEST_PERIOD + 1, u32::MAX]);
+        let field = random.pick(&[Period, Budget, Deadline, Left, Owed, Gap, Core]);
+        let value = random.pick(&[0, 1, 17, LONGEST_PERIOD, LONGEST_PERIOD + 1, u32::MAX]);
         let entry = &mut machine.entries[index];
         *entry.field(field) = value;
         entry.job.open ^= random.one_in(2);
@@ -209,6 +282,7 @@ impl Entry {
             Left => &mut self.job.left,
             Owed => &mut self.job.budget,
             Gap => &mut self.job.gap,
+            Core => &mut self.job.core,
         }
     }
 

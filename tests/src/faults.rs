@@ -1,15 +1,21 @@
 //! Number 0 clause by clause: everything that makes a machine made by hand unsound
-//! (document 01, "Why a call is not carried out", with change 3 of document 02), and
-//! by how much. A second statement beside the simulated machine's own.
+//! (document 01, "Why a call is not carried out", with changes 3 and 4 of document
+//! 02), and by how much. A second statement beside the simulated machine's own.
 
 use crate::probe::{Entry, HandMade};
 use crate::tasks::{LONGEST_PERIOD, MOST_CORES, MOST_TASKS};
 
-/// What can be wrong with the count and with m.
-pub const WHOLE: [&str; 4] = ["count 0", "count above 32", "m 0", "m above 16"];
+/// What can be wrong with the count, with m and with the cores of two tasks.
+pub const WHOLE: [&str; 5] = [
+    "count 0",
+    "count above 32",
+    "m 0",
+    "m above 16",
+    "one core twice",
+];
 
 /// What can be wrong with one task of the table.
-pub const OF_A_TASK: [&str; 12] = [
+pub const OF_A_TASK: [&str; 13] = [
     "C 0",
     "C above D",
     "D above T",
@@ -22,10 +28,11 @@ pub const OF_A_TASK: [&str; 12] = [
     "open with budget 0",
     "open with budget above C",
     "open with gap below left",
+    "core above 16",
 ];
 
 /// One of these, how far the number is from its limit, and the task's number, or 0
-/// for the count and m.
+/// for the count, m and one core twice.
 #[derive(Clone, Copy, Debug, PartialEq, Eq)]
 pub struct Fault {
     pub clause: &'static str,
@@ -56,19 +63,35 @@ fn list(task: u32, clauses: &[&'static str], beyond: &[u32]) -> Vec<Fault> {
     failing.map(fault).collect()
 }
 
-// How far the count and m are beyond their limits, 0 where they are not.
-fn of_the_whole(machine: &HandMade) -> [u32; 4] {
+// How far the count and m are beyond their limits, 0 where they are not, and how
+// many pairs of tasks have the same core.
+fn of_the_whole(machine: &HandMade) -> [u32; 5] {
     let most_tasks = u32::try_from(MOST_TASKS).expect("a count of 32 bits");
     [
         below(machine.count, 1),
         above(machine.count, most_tasks),
         below(machine.cores, 1),
         above(machine.cores, MOST_CORES),
+        pairs_of_one_core(machine),
     ]
 }
 
+// Every task against those before it. Two tasks without a core are no such pair.
+fn pairs_of_one_core(machine: &HandMade) -> u32 {
+    let tasks = machine.tasks().unwrap_or(MOST_TASKS);
+    let cores: Vec<u32> = machine.entries.iter().map(|entry| entry.job.core).collect();
+    let mut pairs = 0;
+    for later in 0..tasks {
+        for earlier in 0..later {
+            let same = cores[earlier] == cores[later] && cores[later] > 0;
+            pairs += u32::from(same);
+        }
+    }
+    pairs
+}
+
 // The same of a task's numbers and its job's, which is open or closed.
-fn of_a_task(entry: &Entry) -> [u32; 12] {
+fn of_a_task(entry: &Entry) -> [u32; 13] {
     let (task, job) = (&entry.task, &entry.job);
     let (open, closed) = (u32::from(job.open), u32::from(!job.open));
     [
@@ -84,6 +107,7 @@ fn of_a_task(entry: &Entry) -> [u32; 12] {
         open * below(job.budget, 1),
         open * above(job.budget, task.budget),
         open * below(job.gap, job.left),
+        above(job.core, MOST_CORES),
     ]
 }
 

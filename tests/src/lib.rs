@@ -1,7 +1,9 @@
 //! An independent check of the table reader, the window test and the slot
-//! machine, written from document 01 and changes 1, 2 and 3 of document 02 alone
+//! machine, written from document 01 and changes 1 to 4 of document 02 alone
 //! and compared with the C entry and the programs.
 
+pub mod assignment;
+pub mod cores;
 pub mod edges;
 pub mod experiment;
 pub mod faults;
@@ -10,6 +12,7 @@ pub mod machine;
 pub mod oracle;
 pub mod parts;
 pub mod probe;
+pub mod probe_check;
 pub mod probes;
 pub mod program;
 pub mod promise;

@@ -1,7 +1,7 @@
 //! The dispatching machine: document 01, "The slot machine", with the refusals
-//! of "Why a call is not carried out", and changes 1, 2 and 3 of document 02: each
-//! slot names its cores, of equal deadlines the longer job goes first, and an open
-//! task whose gap is below its left makes a machine unsound.
+//! of "Why a call is not carried out", and changes 1 to 4 of document 02: each slot
+//! names its cores, of equal deadlines the longer job goes first, an open task whose
+//! gap is below its left makes a machine unsound, and each runner has its own core.
 
 use std::cmp::Reverse;
 
@@ -18,6 +18,8 @@ pub struct Job {
     pub budget: u32,
     /// Slots until the next release is allowed.
     pub gap: u32,
+    /// The task's core in the last accepted slot, 0 if it did not run in it.
+    pub core: u32,
 }
 
 /// The table, m, and one job record for each task.
@@ -29,13 +31,15 @@ pub struct Machine {
 }
 
 /// What a slot tells, each set of tasks as the sum of 2 to the power
-/// (task number − 1), and the number of tasks that ran.
+/// (task number − 1), the number of tasks that ran, and the core of each of them.
 #[derive(Clone, Copy, Debug, Default, PartialEq, Eq)]
 pub struct Slot {
     pub ran: u32,
     pub finished: u32,
     pub late: u32,
     pub runners: u32,
+    /// By task from 0; 0 for every task that did not run.
+    pub assigned: [u32; MOST_TASKS],
 }
 
 impl Job {
@@ -44,7 +48,8 @@ impl Job {
         self.open && self.left <= self.budget
     }
 
-    // "Finish" and step 4 of a slot: a closed task has left 0 and budget 0, gap stays.
+    // "Finish" and step 4 of a slot: a closed task has left 0 and budget 0. Its gap
+    // and its core stay.
     fn close(&mut self) {
         self.open = false;
         self.left = 0;
@@ -61,7 +66,7 @@ impl Job {
         } else {
             self.left == 0 && self.budget == 0
         };
-        numbers && self.gap <= task.period
+        numbers && self.gap <= task.period && self.core <= MOST_CORES
     }
 }
 
@@ -76,8 +81,8 @@ impl Machine {
         })
     }
 
-    /// Release of a task. Refusals: 0, 8, 9. Number 9 covers an open task too: on
-    /// a sound machine its gap is at least its left, and so above 0.
+    /// Release of a task, which keeps its core. Refusals: 0, 8, 9. Number 9 covers an
+    /// open task too: on a sound machine its gap is at least its left, and so above 0.
     pub fn release(&mut self, number: u32) -> Result<(), Refusal> {
         self.check_soundness()?;
         let index = self.index(number)?;
@@ -90,6 +95,7 @@ impl Machine {
             left: task.deadline,
             budget: task.budget,
             gap: task.period,
+            ..*job
         };
         Ok(())
     }
@@ -112,6 +118,7 @@ impl Machine {
             return Err(Refusal::whole(14));
         }
         let picked = self.pick(cores);
+        self.assign(&picked, cores);
         // Step 2.
         for index in &picked {
             self.jobs[*index].budget -= 1;
@@ -144,8 +151,8 @@ impl Machine {
         Ok(())
     }
 
-    // Step 1: the first min(k, number open) open tasks in precedence, from 0.
-    fn pick(&self, cores: u32) -> Vec<usize> {
+    /// Step 1: the first min(k, number open) open tasks in precedence, from 0.
+    pub fn pick(&self, cores: u32) -> Vec<usize> {
         let open = (0..self.jobs.len()).filter(|index| self.jobs[*index].open);
         let mut order: Vec<usize> = open.collect();
         order.sort_by_key(|index| self.precedence(*index));
@@ -160,6 +167,25 @@ impl Machine {
         (!job.urgent(), job.left, Reverse(job.budget), index)
     }
 
+    // Change 4: whoever runs again and has a core among 1 to k keeps it. The others,
+    // in precedence, take the cores that nobody keeps, in rising number.
+    fn assign(&mut self, picked: &[usize], cores: u32) {
+        let recorded: Vec<u32> = self.jobs.iter().map(|job| job.core).collect();
+        let keeps = |index: usize| (1..=cores).contains(&recorded[index]);
+        let keepers = picked.iter().filter(|index| keeps(**index));
+        let kept: Vec<u32> = keepers.map(|index| recorded[*index]).collect();
+        let mut unused = (1..=cores).filter(|core| !kept.contains(core));
+        for job in &mut self.jobs {
+            job.core = 0;
+        }
+        for index in picked {
+            self.jobs[*index].core = match keeps(*index) {
+                true => recorded[*index],
+                false => unused.next().expect("no more runners than cores"),
+            };
+        }
+    }
+
     // Step 4: budget 0 closes as finished, any other with left 0 closes as late.
     fn close_jobs(&mut self, picked: &[usize]) -> Slot {
         let mut slot = Slot {
@@ -168,6 +194,7 @@ impl Machine {
             ..Slot::default()
         };
         for (index, job) in self.jobs.iter_mut().enumerate() {
+            slot.assigned[index] = job.core;
             if job.open && job.budget == 0 {
                 job.close();
                 slot.finished += 1 << index;
@@ -196,10 +223,18 @@ impl Machine {
             && (1..=MOST_CORES).contains(&self.cores)
             && self.jobs.len() == self.table.len();
         let mut held = self.table.iter().zip(&self.jobs);
-        if starts && held.all(|(task, job)| job.is_sound(task)) {
+        if starts && held.all(|(task, job)| job.is_sound(task)) && !self.shares_a_core() {
             Ok(())
         } else {
             Err(Refusal::whole(0))
         }
+    }
+
+    // Whether one core is recorded for two tasks. 0 is no core.
+    fn shares_a_core(&self) -> bool {
+        let recorded = self.jobs.iter().map(|job| job.core);
+        let mut cores: Vec<u32> = recorded.filter(|core| *core != 0).collect();
+        cores.sort_unstable();
+        cores.windows(2).any(|pair| pair[0] == pair[1])
     }
 }

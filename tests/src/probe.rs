@@ -1,5 +1,5 @@
 //! Machines made by hand, sound or not, as the program `probe` takes them, and what
-//! it prints for one call on such a machine: document 01 with changes 1, 2 and 3 of
+//! it prints for one call on such a machine: document 01 with changes 1 to 4 of
 //! document 02. All 32 entries are there, those past the count too.
 
 use std::fmt;
@@ -34,25 +34,28 @@ impl Entry {
     /// An entry of zeros.
     pub const ZERO: Entry = Entry::fresh(Task::new(0, 0, 0));
 
-    /// A task as a start or a join leaves it: closed, its left, budget and gap 0.
+    /// A task as a start or a join leaves it: closed, its left, budget and gap 0, and
+    /// without a core.
     pub const fn fresh(task: Task) -> Entry {
         let job = Job {
             open: false,
             left: 0,
             budget: 0,
             gap: 0,
+            core: 0,
         };
         Entry { task, job }
     }
 
-    /// An entry from its line's seven numbers, the fourth of them 0 or 1.
-    pub const fn of_line(line: [u32; 7]) -> Entry {
-        let [period, task_budget, deadline, open, left, budget, gap] = line;
+    /// An entry from its line's eight numbers, the fourth of them 0 or 1.
+    pub const fn of_line(line: [u32; 8]) -> Entry {
+        let [period, task_budget, deadline, open, left, budget, gap, core] = line;
         let job = Job {
             open: open == 1,
             left,
             budget,
             gap,
+            core,
         };
         let task = Task::new(period, task_budget, deadline);
         Entry { task, job }
@@ -68,9 +71,10 @@ impl fmt::Display for Entry {
         } = self.task;
         let open = u32::from(self.job.open);
         let (left, owed, gap) = (self.job.left, self.job.budget, self.job.gap);
+        let core = self.job.core;
         write!(
             line,
-            "{period} {budget} {deadline} {open} {left} {owed} {gap}"
+            "{period} {budget} {deadline} {open} {left} {owed} {gap} {core}"
         )
     }
 }
@@ -104,8 +108,8 @@ impl HandMade {
         (tasks <= MOST_TASKS).then_some(tasks)
     }
 
-    // The table, m and the jobs, without the entries past the count.
-    fn machine(&self) -> Option<Machine> {
+    /// The table, m and the jobs, without the entries past the count.
+    pub fn machine(&self) -> Option<Machine> {
         let held = &self.entries[..self.tasks()?];
         Some(Machine {
             table: held.iter().map(|entry| entry.task).collect(),

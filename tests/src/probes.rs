@@ -155,14 +155,32 @@ fn unreached(random: &mut Random, reached: &Machine) -> HandMade {
     machine
 }
 
-// Any sound job for each task. Lefts and budgets near one number bring ties.
+// Any sound job and core for each task. Lefts and budgets near one number bring ties.
 fn any_jobs(random: &mut Random, entries: &mut [Entry]) {
     let near = random.pick(&[1, 2, 3, 5, 1_000, 999_999]);
     let closed = random.pick(&[2, 4, 16]);
-    for entry in entries {
+    for entry in entries.iter_mut() {
         entry.job = match random.one_in(closed) {
             true => closed_job(random, &entry.task),
             false => open_job(random, &entry.task, near),
+        };
+    }
+    any_cores(random, entries);
+}
+
+// No two have the same core, and some have none, whether they are open or closed. The
+// cores go up to any number, and so are often among 1 to k and often above k.
+fn any_cores(random: &mut Random, entries: &mut [Entry]) {
+    let most = random.pick(&[2, 3, 5, 9, MOST_CORES, MOST_CORES]);
+    let without = random.pick(&[2, 4, 16]);
+    let mut free: Vec<u32> = (1..=most).collect();
+    let tasks = entries.len();
+    let first = random.below(tasks.max(1));
+    for place in 0..tasks {
+        let core = &mut entries[(first + place) % tasks].job.core;
+        *core = match free.is_empty() || random.one_in(without) {
+            true => 0,
+            false => free.swap_remove(random.below(free.len())),
         };
     }
 }
@@ -192,6 +210,7 @@ fn open_job(random: &mut Random, task: &Task, near: u32) -> Job {
         left,
         budget,
         gap,
+        core: 0,
     }
 }
 
@@ -204,11 +223,15 @@ fn small(random: &mut Random) -> HandMade {
     };
     let tasks = machine.tasks().expect("at most 3 tasks");
     machine.entries[..tasks].fill_with(|| small_entry(random));
+    if !random.one_in(4) {
+        any_cores(random, &mut machine.entries[..tasks]);
+    }
     fill_past(random, &mut machine);
     machine
 }
 
-// A task in range, and a job of any small numbers. Most closed ones have no numbers.
+// A task in range, and a job of any small numbers. Most closed ones have no numbers,
+// and half of all have no core.
 fn small_entry(random: &mut Random) -> Entry {
     let period = random.between(1, 4);
     let deadline = random.between(1, period);
@@ -220,6 +243,7 @@ fn small_entry(random: &mut Random) -> Entry {
         job.left = random.between(0, deadline + 1);
         job.budget = random.between(0, entry.task.budget + 1);
     }
+    job.core = random.pick(&[0, 0, 0, 0, 1, 2, 16, 17]);
     entry
 }
 
@@ -242,9 +266,9 @@ fn raw(random: &mut Random) -> HandMade {
 fn raw_entry(random: &mut Random) -> Entry {
     let mut number = || random.pick(&RAW_NUMBERS);
     let [period, budget, deadline] = [number(), number(), number()];
-    let [left, owed, gap] = [number(), number(), number()];
+    let [left, owed, gap, core] = [number(), number(), number(), number()];
     let open = u32::from(random.one_in(2));
-    Entry::of_line([period, budget, deadline, open, left, owed, gap])
+    Entry::of_line([period, budget, deadline, open, left, owed, gap, core])
 }
 
 // A call of any kind, often one that concerns the task that was changed.

@@ -33,7 +33,7 @@ struct Watch {
     refused_slots: u32,
 }
 
-// The four numbers of an accepted slot.
+// Of the numbers of an accepted slot those that the demand reads: no core.
 struct Printed {
     ran: u32,
     finished: u32,
@@ -165,7 +165,7 @@ fn holds(sum: u32, number: u32) -> bool {
 fn numbers(answer: &str) -> Result<Printed, String> {
     let fields: Result<Vec<u32>, _> = answer.split(' ').map(str::parse).collect();
     match fields.as_deref() {
-        Ok(&[ran, finished, late, _]) => Ok(Printed {
+        Ok(&[ran, finished, late, _, ..]) => Ok(Printed {
             ran,
             finished,
             late,

@@ -1,6 +1,6 @@
 //! Scripts for the program that replays calls: the number of cores, a table as
 //! text and a list of calls, with the answers that document 01 expects, and
-//! changes 1, 2 and 3 of document 02.
+//! changes 1 to 4 of document 02.
 
 use std::fmt;
 
@@ -60,19 +60,30 @@ impl fmt::Display for Call {
     }
 }
 
+// After the four numbers the core of each runner, in rising task number.
+impl fmt::Display for Slot {
+    fn fmt(&self, line: &mut fmt::Formatter) -> fmt::Result {
+        let Slot {
+            ran,
+            finished,
+            late,
+            runners,
+            assigned,
+        } = self;
+        write!(line, "{ran} {finished} {late} {runners}")?;
+        let tasks = assigned.iter().enumerate();
+        for (_, core) in tasks.filter(|(index, _)| ran >> index & 1 == 1) {
+            write!(line, " {core}")?;
+        }
+        Ok(())
+    }
+}
+
 impl fmt::Display for Answer {
     fn fmt(&self, line: &mut fmt::Formatter) -> fmt::Result {
         match self {
             Answer::Done => write!(line, "DONE"),
-            Answer::Ran(slot) => {
-                let Slot {
-                    ran,
-                    finished,
-                    late,
-                    runners,
-                } = slot;
-                write!(line, "{ran} {finished} {late} {runners}")
-            }
+            Answer::Ran(slot) => write!(line, "{slot}"),
             Answer::Refused(number) => write!(line, "REFUSED {number}"),
             Answer::BadLine(number) => write!(line, "BAD LINE {number}"),
         }

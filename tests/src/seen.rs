@@ -1,7 +1,10 @@
 //! What a comparison of machines made by hand should meet: events about the gap of
 //! an open task (document 02, change 3), the limits of sound machines, jobs that no
-//! list of calls leaves, and the entries past the count.
+//! list of calls leaves, recorded cores (change 4), and the entries past the count.
 
+use std::collections::BTreeSet;
+
+use crate::assignment::{self, Assignment};
 use crate::faults::{Fault, faults};
 use crate::machine::{Job, Slot};
 use crate::probe::{Entry, HandMade, Probe};
@@ -191,8 +194,67 @@ const JOBS: [Event; 15] = [
     }),
 ];
 
+// Recorded cores: which are sound, and which calls keep them.
+const RECORDS: [Event; 16] = [
+    ("accepted, core 16 recorded", |seen| {
+        seen.accepted_task(|_, job| job.core == 16)
+    }),
+    ("accepted, a closed task with a core", |seen| {
+        seen.accepted_task(|_, job| !job.open && job.core > 0)
+    }),
+    ("accepted, two without a core and one with", |seen| {
+        let without = seen.table().iter().filter(|entry| entry.job.core == 0);
+        seen.accepted_task(|_, job| job.core > 0) && without.count() >= 2
+    }),
+    ("0 for a core above 16 of an open task alone", |seen| {
+        seen.core_above_16(|job| job.open)
+    }),
+    ("0 for a core above 16 of a closed task alone", |seen| {
+        seen.core_above_16(|job| !job.open)
+    }),
+    (
+        "0 for one core twice alone, first and last of many",
+        |seen| {
+            let last = seen.before.count;
+            seen.sharers() == Some([1, last]) && last > 2
+        },
+    ),
+    ("0 for one core twice alone, neighbours", |seen| {
+        let sharers = seen.sharers();
+        sharers.is_some_and(|[one, other]| other == one + 1)
+    }),
+    ("0 for one core twice alone, both open", |seen| {
+        seen.opens_of_sharers() == Some([true, true])
+    }),
+    ("0 for one core twice alone, one open", |seen| {
+        seen.opens_of_sharers()
+            .is_some_and(|[one, other]| one != other)
+    }),
+    ("0 for one core twice alone, both closed", |seen| {
+        seen.opens_of_sharers() == Some([false, false])
+    }),
+    ("0 for core 16 twice alone", |seen| {
+        seen.sharers().is_some() && seen.has_task(|_, job| job.core == 16)
+    }),
+    ("release of a task with a core", |seen| {
+        seen.is(RELEASE, Answer::Done) && seen.named().is_some_and(|entry| entry.job.core > 0)
+    }),
+    ("finish of a task with a core", |seen| {
+        seen.is(FINISH, Answer::Done) && seen.named().is_some_and(|entry| entry.job.core > 0)
+    }),
+    ("join, cores recorded", |seen| {
+        seen.is(JOIN, Answer::Done) && seen.has_task(|_, job| job.core > 0)
+    }),
+    ("refused slot, cores recorded", |seen| {
+        seen.is(SLOT, Answer::Refused(14)) && seen.has_task(|_, job| job.core > 0)
+    }),
+    ("refused join, cores recorded", |seen| {
+        seen.is(JOIN, Answer::Refused(13)) && seen.has_task(|_, job| job.core > 0)
+    }),
+];
+
 // Entries past the count: no call reads them, and only a join writes its own.
-const PAST: [Event; 14] = [
+const PAST: [Event; 20] = [
     ("release, entries past the count not 0", |seen| {
         seen.is(RELEASE, Answer::Done) && seen.past(|entry| *entry != Entry::ZERO)
     }),
@@ -236,7 +298,36 @@ const PAST: [Event; 14] = [
     ("join to 31 tasks, refused by 13", |seen| {
         seen.before.count == 31 && seen.is(JOIN, Answer::Refused(13))
     }),
+    ("slot, a core past the count", |seen| {
+        seen.slot(|_| true) && seen.past(|entry| entry.job.core > 0)
+    }),
+    ("slot, an open task past the count with a core", |seen| {
+        seen.slot(|_| true) && seen.past(|entry| entry.job.open && entry.job.core > 0)
+    }),
+    ("sound, a core above 16 past the count", |seen| {
+        seen.faults.is_empty() && seen.past(|entry| entry.job.core > 16)
+    }),
+    ("sound, one core in the table and past the count", |seen| {
+        let past = cores(&seen.before.entries[seen.table().len()..]);
+        let mut shared = cores(seen.table()).into_iter();
+        seen.faults.is_empty() && shared.any(|core| past.contains(&core))
+    }),
+    ("slot that gives a core recorded past the count", |seen| {
+        let past = cores(&seen.before.entries[seen.table().len()..]);
+        let given = matches!(&seen.answer, Answer::Ran(slot)
+            if slot.assigned.iter().any(|core| past.contains(core)));
+        given && seen.faults.is_empty()
+    }),
+    ("join over an entry with a core", |seen| {
+        seen.joined(|own, _| own.job.core > 0)
+    }),
 ];
+
+// The cores of these entries, without 0.
+fn cores(entries: &[Entry]) -> BTreeSet<u32> {
+    let cores = entries.iter().map(|entry| entry.job.core);
+    cores.filter(|core| *core > 0).collect()
+}
 
 // The gap that an open job has after any list of calls from a start.
 fn reached_gap(task: &Task, job: &Job) -> u32 {
@@ -253,6 +344,16 @@ impl Seen {
             after,
             faults: faults(&probe.machine),
         }
+    }
+
+    /// The names of the events that this call is.
+    pub fn met(&self) -> Vec<&'static str> {
+        let met = events().filter(|(_, happens)| happens(self));
+        let mut names: Vec<&str> = met.map(|(name, _)| *name).collect();
+        if let Some(assignment) = self.assignment() {
+            names.extend(assignment.met());
+        }
+        names
     }
 
     /// The first word of the call's line.
@@ -307,6 +408,49 @@ impl Seen {
             && self.has_task(|task, job| job.open && job.gap < job.left && so(task, job))
     }
 
+    // Nothing but a core above 16 is wrong, of a job that is so.
+    fn core_above_16(&self, so: fn(&Job) -> bool) -> bool {
+        let alone = self.alone();
+        alone.is_some_and(|fault| fault.clause == "core above 16")
+            && self.has_task(|_, job| job.core > 16 && so(job))
+    }
+
+    // The numbers of two tasks with one core, if nothing else is wrong.
+    fn sharers(&self) -> Option<[u32; 2]> {
+        let fault = self.alone()?;
+        if fault.clause != "one core twice" || fault.beyond > 1 {
+            return None;
+        }
+        let table: Vec<(u32, &Entry)> = (1..).zip(self.table()).collect();
+        let same = |core: u32| {
+            table
+                .iter()
+                .filter(move |(_, entry)| entry.job.core == core)
+        };
+        let mut cores = cores(self.table()).into_iter();
+        let shared = cores.find(|core| same(*core).count() == 2)?;
+        let numbers: Vec<u32> = same(shared).map(|(number, _)| *number).collect();
+        numbers.try_into().ok()
+    }
+
+    fn opens_of_sharers(&self) -> Option<[bool; 2]> {
+        let open = |number: u32| {
+            let index = usize::try_from(number - 1).expect("at most 32 tasks");
+            self.before.entries[index].job.open
+        };
+        self.sharers().map(|numbers| numbers.map(open))
+    }
+
+    // How an accepted slot gives its cores.
+    fn assignment(&self) -> Option<Assignment> {
+        match (self.call, &self.answer) {
+            (Call::Slot(k), Answer::Ran(slot)) => {
+                Some(Assignment::new(&self.before.machine()?, k, slot))
+            }
+            _ => None,
+        }
+    }
+
     // The entry of the task that a release or finish names.
     fn named(&self) -> Option<&Entry> {
         let (Call::Release(number) | Call::Finish(number)) = self.call else {
@@ -355,8 +499,14 @@ impl Seen {
     }
 }
 
-/// Every event that a comparison should meet.
-pub fn events() -> impl Iterator<Item = &'static Event> {
-    let lists: [&'static [Event]; 4] = [&GAPS, &LIMITS, &JOBS, &PAST];
+// Every event on a machine and its call.
+fn events() -> impl Iterator<Item = &'static Event> {
+    let lists: [&'static [Event]; 5] = [&GAPS, &LIMITS, &JOBS, &RECORDS, &PAST];
     lists.into_iter().flatten()
+}
+
+/// The names of all events that a comparison should meet, with those of a slot's cores.
+pub fn names() -> impl Iterator<Item = &'static str> {
+    let of_slots = assignment::EVENTS.iter().map(|(name, _)| *name);
+    events().map(|(name, _)| *name).chain(of_slots)
 }

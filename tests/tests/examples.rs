@@ -41,11 +41,11 @@ fn tables() {
 fn scripts() {
     check_script(
         "calls.replay",
-        "DONE\nDONE\nDONE\n7 1 0 3\nREFUSED 9\nDONE\nDONE\nDONE\nREFUSED 14\n12 8 0 2\nREFUSED 5\n4 0 0 1\n",
+        "DONE\nDONE\nDONE\n7 1 0 3 1 2 3\nREFUSED 9\nDONE\nDONE\nDONE\nREFUSED 14\n12 8 0 2 3 1\nREFUSED 5\n4 0 0 1 3\n",
     );
     check_script(
         "case_j.replay",
-        "DONE\nDONE\nDONE\n3 0 0 2\n5 1 0 2\n6 2 0 2\n4 0 0 1\n4 0 0 1\n4 4 0 1\n",
+        "DONE\nDONE\nDONE\n3 0 0 2 1 2\n5 1 0 2 1 2\n6 2 0 2 1 2\n4 0 0 1 2\n4 0 0 1 2\n4 4 0 1 2\n",
     );
     check_script(
         "refusals.replay",
@@ -53,17 +53,17 @@ fn scripts() {
     );
     check_script(
         "ties.replay",
-        "DONE\nDONE\n2 0 0 1\n2 0 0 1\n1 1 0 1\n2 2 0 1\n",
+        "DONE\nDONE\n2 0 0 1 1\n2 0 0 1 1\n1 1 0 1 1\n2 2 0 1 1\n",
     );
 }
 
 // An open job whose gap is below its left: the machine is unsound, and as it was.
 #[test]
 fn machines() {
-    let zeros = "0 0 0 0 0 0 0\n".repeat(31);
+    let zeros = "0 0 0 0 0 0 0 0\n".repeat(31);
     check_machine(
         "probe.machine",
-        &format!("REFUSED 0\nMACHINE 1 1\n6 3 5 1 4 2 3\n{zeros}"),
+        &format!("REFUSED 0\nMACHINE 1 1\n6 3 5 1 4 2 3 0\n{zeros}"),
     );
 }
 

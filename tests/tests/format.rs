@@ -116,7 +116,7 @@ const SETTLED_SLOTS: [Case; 23] = [
     (
         "calls after a refused slot",
         "SLOT 0\nRELEASE 1\nSLOT 1\n",
-        "REFUSED 14\nDONE\n1 1 0 1\n",
+        "REFUSED 14\nDONE\n1 1 0 1 1\n",
     ),
     (
         "a bad line after a refused slot",

@@ -106,10 +106,10 @@ fn pieces_make_one_text() {
     }
     let script = [b"CORES 2\n", TABLE, b"CALLS\nRELEASE 1\nSLOT 2\n"].concat();
     let replay = in_pieces(&path("REPLAY", "replay"), &script, 5);
-    assert_eq!(replay, b"DONE\n1 1 0 1\n");
-    let zeros = "0 0 0 0 0 0 0\n".repeat(31);
-    let text = format!("MACHINE 1 1\n9 2 5 1 5 2 9\n{zeros}SLOT 1\n");
-    let printed = format!("1 0 0 1\nMACHINE 1 1\n9 2 5 1 4 1 8\n{zeros}");
+    assert_eq!(replay, b"DONE\n1 1 0 1 1\n");
+    let zeros = "0 0 0 0 0 0 0 0\n".repeat(31);
+    let text = format!("MACHINE 1 1\n9 2 5 1 5 2 9 0\n{zeros}SLOT 1\n");
+    let printed = format!("1 0 0 1 1\nMACHINE 1 1\n9 2 5 1 4 1 8 1\n{zeros}");
     for size in [1, 13, 100] {
         let probe = in_pieces(&path("PROBE", "probe"), text.as_bytes(), size);
         assert_eq!(probe, printed.as_bytes());

@@ -1,7 +1,7 @@
 //! The simulated machine by itself, on machines made by hand: number 0, which no
 //! list of calls from a start can meet (document 01, "Why a call is not carried
-//! out", with change 3 of document 02), refusals that leave the machine as it was,
-//! and precedence at the limits of left and budget.
+//! out", with changes 3 and 4 of document 02), refusals that leave the machine as it
+//! was, and precedence at the limits of left and budget.
 
 use std::collections::BTreeMap;
 
@@ -17,7 +17,12 @@ const fn job(open: bool, left: u32, budget: u32, gap: u32) -> Job {
         left,
         budget,
         gap,
+        core: 0,
     }
+}
+
+const fn on_core(job: Job, core: u32) -> Job {
+    Job { core, ..job }
 }
 
 // One task of T 9, C 2, D 5 and its job.
@@ -58,6 +63,11 @@ fn number_0_comes_before_all_others() {
         job(true, 5, 2, 0),
         job(true, 3, 1, 2),
         job(true, 1, 1, 0),
+        on_core(CLOSED, 17),
+        on_core(OPEN, 17),
+        on_core(OPEN, 32),
+        on_core(OPEN, 256 + 1),
+        on_core(CLOSED, u32::MAX),
     ];
     for job in unsound {
         assert_eq!(refusals(&machine(job)), [Some(0); 4], "{job:?}");
@@ -92,6 +102,10 @@ fn sound_machines_at_the_limits() {
         job(true, 3, 1, 3),
         job(true, 3, 1, 4),
         job(true, 5, 2, 5),
+        on_core(CLOSED, 1),
+        on_core(CLOSED, 16),
+        on_core(OPEN, 1),
+        on_core(OPEN, 16),
     ];
     for job in sound {
         let expected = [Some(8), Some(8), Some(14), Some(5)];
@@ -221,5 +235,5 @@ fn the_four_steps_of_a_slot() {
     let mut machine = machine(job(true, 1, 1, 5));
     let slot = machine.slot(1).expect("a slot");
     assert_eq!((slot.ran, slot.finished, slot.late), (1, 1, 0));
-    assert_eq!(machine.jobs, [job(false, 0, 0, 4)]);
+    assert_eq!(machine.jobs, [on_core(job(false, 0, 0, 4), 1)]);
 }

@@ -11,7 +11,7 @@ use edzl_tests::faults::{Fault, OF_A_TASK, WHOLE};
 use edzl_tests::probe::{Probe, output};
 use edzl_tests::probes::{IN_A_GROUP, group};
 use edzl_tests::script::Answer;
-use edzl_tests::seen::{FINISH, JOIN, RELEASE, SLOT, Seen, events};
+use edzl_tests::seen::{FINISH, JOIN, RELEASE, SLOT, Seen, names};
 use edzl_tests::{parts, program, settings};
 
 const PROBES: u64 = 50_000;
@@ -68,10 +68,8 @@ impl Tally {
         if let Some(fault) = seen.alone() {
             self.fault(call, fault, seen.before.count);
         }
-        for (name, happens) in events() {
-            if happens(seen) {
-                add(&mut self.events, *name, 1);
-            }
+        for name in seen.met() {
+            add(&mut self.events, name, 1);
         }
     }
 
@@ -131,8 +129,8 @@ impl Tally {
             clauses_to_meet(),
             "the only faults met, and the expected ones"
         );
-        for (name, _) in events() {
-            assert!(self.events.contains_key(*name), "never met: {name}");
+        for name in names() {
+            assert!(self.events.contains_key(name), "never met: {name}");
         }
     }
 }

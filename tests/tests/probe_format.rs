@@ -4,7 +4,7 @@
 use edzl_tests::{parts, program};
 
 const LINES: usize = 34;
-const ZEROS: &str = "0 0 0 0 0 0 0";
+const ZEROS: &str = "0 0 0 0 0 0 0 0";
 const LONGEST: &str = "4294967295";
 
 // What no number is; for OPEN see below.
@@ -63,19 +63,21 @@ const BAD_MACHINES: [&str; 16] = [
     "SLOT 1",
 ];
 
-const BAD_ENTRIES: [&str; 14] = [
+const BAD_ENTRIES: [&str; 16] = [
     "0",
     "0 0 0 0 0 0",
-    "0 0 0 0 0 0 ",
+    "0 0 0 0 0 0 0",
     "0 0 0 0 0 0 0 ",
-    "0 0 0 0 0 0 0 0",
-    " 0 0 0 0 0 0 0",
-    "0  0 0 0 0 0 0",
-    "0 0 0 0 0 0  0",
-    "0 0 0\t0 0 0 0",
-    "0 0 0 0 0 0 0\r",
-    "0 0 0 0 0 0 0\0",
-    "0 0 0 0 0 0 0 0 0 0 0 0 0 0",
+    "0 0 0 0 0 0 0 0 ",
+    "0 0 0 0 0 0 0 0 0",
+    " 0 0 0 0 0 0 0 0",
+    "0  0 0 0 0 0 0 0",
+    "0 0 0 0 0 0 0  0",
+    "0 0 0\t0 0 0 0 0",
+    "0 0 0 0 0 0 0\t0",
+    "0 0 0 0 0 0 0 0\r",
+    "0 0 0 0 0 0 0 0\0",
+    "0 0 0 0 0 0 0 0 0 0 0 0 0 0 0 0",
     "MACHINE 1 1",
     "SLOT 1",
 ];
@@ -120,7 +122,7 @@ const BAD_CALLS: [&str; 33] = [
 fn good_lines() -> [String; LINES] {
     let mut lines = [ZEROS; LINES].map(str::to_string);
     lines[0] = "MACHINE 1 1".to_string();
-    lines[1] = "9 2 5 1 5 2 9".to_string();
+    lines[1] = "9 2 5 1 5 2 9 0".to_string();
     lines[33] = "SLOT 1".to_string();
     lines
 }
@@ -155,7 +157,7 @@ fn with_bad_numbers(good: &str, first: usize) -> Vec<String> {
     let mut lines = Vec::new();
     for place in first..fields.len() {
         let mut bad = BAD_NUMBERS.to_vec();
-        if fields.len() == 7 && place == 3 {
+        if fields.len() == 8 && place == 3 {
             bad.extend(BAD_OPEN);
         }
         for number in bad {
@@ -182,7 +184,7 @@ fn bad_lines(number: usize) -> Vec<String> {
                 lines.extend(with_bad_numbers(call, 1));
             }
         }
-        _ => lines.extend(with_bad_numbers("9 2 5 1 5 2 9", 0)),
+        _ => lines.extend(with_bad_numbers("9 2 5 1 5 2 9 0", 0)),
     }
     lines
 }
@@ -261,7 +263,7 @@ fn very_long_texts() {
             "\0",
             "x\n",
             "1 ",
-            "0 0 0 0 0 0 0 ",
+            "0 0 0 0 0 0 0 0 ",
         ] {
             let filling = filling.repeat(100_000 / filling.len());
             check_bad(&format!("{start}{filling}"), number);
@@ -295,17 +297,18 @@ fn very_long_fields() {
     }
 }
 
-// The longest text of all: every number has 10 digits. It is 2,244 bytes long.
+// The longest text of all: every number has 10 digits. It is 2,596 bytes long.
 #[test]
 fn the_longest_text() {
-    let entry = format!("{LONGEST} {LONGEST} {LONGEST} 1 {LONGEST} {LONGEST} {LONGEST}\n");
+    let job = format!("1 {LONGEST} {LONGEST} {LONGEST} {LONGEST}");
+    let entry = format!("{LONGEST} {LONGEST} {LONGEST} {job}\n");
     let machine = format!("MACHINE {LONGEST} {LONGEST}\n{}", entry.repeat(32));
     let good = format!("{machine}JOIN {LONGEST} {LONGEST} {LONGEST}\n");
-    assert_eq!(good.len(), 2_244);
+    assert_eq!(good.len(), 2_596);
     check_good(&good, &format!("REFUSED 0\n{machine}"));
     check_bad(&format!("{good}\n"), 35);
     check_bad(&format!("{good}{}", "x".repeat(100_000)), 35);
-    check_bad(&good[..2_243], 34);
+    check_bad(&good[..2_595], 34);
     let longer = format!("{machine}JOIN {LONGEST} {LONGEST} {LONGEST}0\n");
     check_bad(&longer, 34);
     check_bad(&format!("{longer}{}", "1".repeat(100_000)), 34);
@@ -315,19 +318,19 @@ fn the_longest_text() {
 #[test]
 fn good_texts() {
     let zeros = format!("{ZEROS}\n").repeat(31);
-    let before = format!("MACHINE 1 1\n9 2 5 1 5 2 9\n{zeros}");
+    let before = format!("MACHINE 1 1\n9 2 5 1 5 2 9 0\n{zeros}");
     let cases = [
-        ("SLOT 1", "1 0 0 1", "MACHINE 1 1\n9 2 5 1 4 1 8\n"),
-        ("SLOT 0", "REFUSED 14", "MACHINE 1 1\n9 2 5 1 5 2 9\n"),
-        ("RELEASE 1", "REFUSED 9", "MACHINE 1 1\n9 2 5 1 5 2 9\n"),
-        ("RELEASE 0", "REFUSED 8", "MACHINE 1 1\n9 2 5 1 5 2 9\n"),
-        ("FINISH 1", "DONE", "MACHINE 1 1\n9 2 5 0 0 0 9\n"),
+        ("SLOT 1", "1 0 0 1 1", "MACHINE 1 1\n9 2 5 1 4 1 8 1\n"),
+        ("SLOT 0", "REFUSED 14", "MACHINE 1 1\n9 2 5 1 5 2 9 0\n"),
+        ("RELEASE 1", "REFUSED 9", "MACHINE 1 1\n9 2 5 1 5 2 9 0\n"),
+        ("RELEASE 0", "REFUSED 8", "MACHINE 1 1\n9 2 5 1 5 2 9 0\n"),
+        ("FINISH 1", "DONE", "MACHINE 1 1\n9 2 5 0 0 0 9 0\n"),
         (
             "FINISH 4294967295",
             "REFUSED 8",
-            "MACHINE 1 1\n9 2 5 1 5 2 9\n",
+            "MACHINE 1 1\n9 2 5 1 5 2 9 0\n",
         ),
-        ("JOIN 0 0 0", "REFUSED 5", "MACHINE 1 1\n9 2 5 1 5 2 9\n"),
+        ("JOIN 0 0 0", "REFUSED 5", "MACHINE 1 1\n9 2 5 1 5 2 9 0\n"),
     ];
     for (call, answer, after) in cases {
         check_good(

@@ -1,5 +1,6 @@
 //! Scripts played through `probe`, one call after the other, each on the machine
-//! that was printed after the call before: the same answers as `replay` prints.
+//! that was printed after the call before: the same answers as `replay` prints, the
+//! cores of each slot among them.
 
 use std::collections::BTreeSet;
 use std::ops::Range;
@@ -13,10 +14,12 @@ const SCRIPTS: u64 = 250;
 // Each script is cut after so many calls.
 const CALLS: usize = 30;
 
-// Every first word of an answer to a call, with the number of a refusal.
-const ANSWERS: [&str; 9] = [
+// Every first word of an answer to a call, with the number of a refusal. The slots in
+// which the cores do not rise with the task number stand apart.
+const ANSWERS: [&str; 10] = [
     "DONE",
     "RAN",
+    "RAN, CORES NOT RISING",
     "REFUSED 11",
     "REFUSED 12",
     "REFUSED 13",
@@ -59,12 +62,21 @@ fn compare(seed: u64, part: Range<u64>) -> BTreeSet<String> {
         let replayed = program::replay_output(&script.text());
         let replayed = String::from_utf8_lossy(&replayed);
         assert_eq!(through_probe(&script), replayed, "{script:?}");
-        kinds.extend(replayed.lines().map(|answer| {
-            let slot = answer.starts_with(|first: char| first.is_ascii_digit());
-            if slot { "RAN" } else { answer }.to_string()
-        }));
+        kinds.extend(replayed.lines().map(kind));
     }
     kinds
+}
+
+fn kind(answer: &str) -> String {
+    if !answer.starts_with(|first: char| first.is_ascii_digit()) {
+        return answer.to_string();
+    }
+    let numbers = answer.split(' ').map(|field| field.parse::<u32>());
+    let numbers: Vec<u32> = numbers.map(|number| number.expect("a number")).collect();
+    match numbers[4..].is_sorted() {
+        true => "RAN".to_string(),
+        false => "RAN, CORES NOT RISING".to_string(),
+    }
 }
 
 #[test]

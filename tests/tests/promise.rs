@@ -40,8 +40,8 @@ fn broken(place: usize, fault: &str) -> Result<Kept, String> {
 #[test]
 fn jobs_closed_in_time() {
     let once = script(&[Release(1), SLOT, SLOT, SLOT, SLOT]);
-    let at_once = "DONE\n1 0 0 1\n1 1 0 1\n0 0 0 0\n0 0 0 0\n";
-    let at_last = "DONE\n0 0 0 0\n0 0 0 0\n1 0 0 1\n1 1 0 1\n";
+    let at_once = "DONE\n1 0 0 1 1\n1 1 0 1 1\n0 0 0 0\n0 0 0 0\n";
+    let at_last = "DONE\n0 0 0 0\n0 0 0 0\n1 0 0 1 1\n1 1 0 1 1\n";
     assert_eq!(check(&once, at_once), kept(1, 0, 0));
     assert_eq!(check(&once, at_last), kept(1, 0, 0));
 }
@@ -49,10 +49,10 @@ fn jobs_closed_in_time() {
 #[test]
 fn jobs_closed_by_a_finish() {
     let calls = [Release(1), Release(2), SLOT, Finish(1), SLOT, SLOT, SLOT];
-    let printed = "DONE\nDONE\n1 0 0 1\nDONE\n2 2 0 1\n0 0 0 0\n0 0 0 0\n";
+    let printed = "DONE\nDONE\n1 0 0 1 1\nDONE\n2 2 0 1 1\n0 0 0 0\n0 0 0 0\n";
     assert_eq!(check(&script(&calls), printed), kept(1, 1, 0));
     // A refused finish closes nothing.
-    let refused = printed.replacen("0 1\nDONE", "0 1\nREFUSED 11", 1);
+    let refused = printed.replacen("1 1\nDONE", "1 1\nREFUSED 11", 1);
     let expected = broken(7, "a job of task 1 is not closed");
     assert_eq!(check(&script(&calls), &refused), expected);
 }
@@ -83,7 +83,7 @@ fn a_machine_that_runs_nobody() {
 #[test]
 fn a_job_finished_before_its_budget() {
     let calls = [Release(1), SLOT, SLOT, SLOT, SLOT];
-    let printed = "DONE\n1 1 0 1\n0 0 0 0\n0 0 0 0\n0 0 0 0\n";
+    let printed = "DONE\n1 1 0 1 1\n0 0 0 0\n0 0 0 0\n0 0 0 0\n";
     let expected = broken(5, "a job of task 1 is not closed");
     assert_eq!(check(&script(&calls), printed), expected);
 }
@@ -91,7 +91,7 @@ fn a_job_finished_before_its_budget() {
 #[test]
 fn a_job_that_runs_and_does_not_finish() {
     let calls = [Release(1), SLOT, SLOT, SLOT, SLOT];
-    let printed = "DONE\n1 0 0 1\n1 0 0 1\n1 1 0 1\n0 0 0 0\n";
+    let printed = "DONE\n1 0 0 1 1\n1 0 0 1 1\n1 1 0 1 1\n0 0 0 0\n";
     let expected = broken(5, "a job of task 1 is not closed");
     assert_eq!(check(&script(&calls), printed), expected);
 }
@@ -100,7 +100,7 @@ fn a_job_that_runs_and_does_not_finish() {
 #[test]
 fn only_calls_after_the_release_count() {
     let calls = [SLOT, Finish(2), Release(2), SLOT, SLOT, SLOT];
-    let printed = "2 2 0 1\nDONE\nDONE\n0 0 0 0\n0 0 0 0\n0 0 0 0\n";
+    let printed = "2 2 0 1 1\nDONE\nDONE\n0 0 0 0\n0 0 0 0\n0 0 0 0\n";
     let expected = broken(6, "a job of task 2 is not closed");
     assert_eq!(check(&script(&calls), printed), expected);
 }
@@ -115,9 +115,9 @@ fn joined_tasks() {
         SLOT,
         SLOT,
     ];
-    let printed = "REFUSED 13\nDONE\nDONE\n0 0 0 0\n4 4 0 1\n";
+    let printed = "REFUSED 13\nDONE\nDONE\n0 0 0 0\n4 4 0 1 1\n";
     assert_eq!(check(&script(&calls), printed), kept(1, 0, 0));
-    let idle = printed.replace("4 4 0 1", "0 0 0 0");
+    let idle = printed.replace("4 4 0 1 1", "0 0 0 0");
     let expected = broken(5, "a job of task 3 is not closed");
     assert_eq!(check(&script(&calls), &idle), expected);
     let without = printed.replacen("DONE", "REFUSED 13", 1);
@@ -134,7 +134,7 @@ fn counted(printed: &str) -> String {
 #[test]
 fn refused_slots_are_no_slots_in_d() {
     let calls = [Release(1), SLOT, BELOW, SLOT, ABOVE, SLOT, SLOT];
-    let printed = "DONE\n0 0 0 0\nREFUSED 14\n0 0 0 0\nREFUSED 14\n1 0 0 1\n1 1 0 1\n";
+    let printed = "DONE\n0 0 0 0\nREFUSED 14\n0 0 0 0\nREFUSED 14\n1 0 0 1 1\n1 1 0 1 1\n";
     let expected = Kept {
         by_running: 1,
         past_refused_slots: 1,
@@ -160,7 +160,7 @@ fn refused_slots_decide_nothing() {
 #[test]
 fn a_job_not_closed_past_refused_slots() {
     let calls = [Release(1), BELOW, SLOT, SLOT, ABOVE, SLOT, SLOT];
-    let printed = "DONE\nREFUSED 14\n1 0 0 1\n0 0 0 0\nREFUSED 14\n0 0 0 0\n0 0 0 0\n";
+    let printed = "DONE\nREFUSED 14\n1 0 0 1 1\n0 0 0 0\nREFUSED 14\n0 0 0 0\n0 0 0 0\n";
     let expected = broken(7, "a job of task 1 is not closed");
     assert_eq!(check(&script(&calls), printed), expected);
 }
@@ -169,7 +169,7 @@ fn a_job_not_closed_past_refused_slots() {
 #[test]
 fn refused_slots_before_and_after_a_job() {
     let calls = [ABOVE, Release(2), SLOT, BELOW, Release(1), SLOT, SLOT];
-    let printed = "REFUSED 14\nDONE\n2 2 0 1\nREFUSED 14\nDONE\n1 0 0 1\n1 1 0 1\n";
+    let printed = "REFUSED 14\nDONE\n2 2 0 1 1\nREFUSED 14\nDONE\n1 0 0 1 1\n1 1 0 1 1\n";
     assert_eq!(check(&script(&calls), printed), kept(2, 0, 0));
     let calls = [Release(1), SLOT, BELOW, Finish(1)];
     let expected = Kept {
@@ -177,7 +177,7 @@ fn refused_slots_before_and_after_a_job() {
         past_refused_slots: 1,
         ..Kept::default()
     };
-    let printed = "DONE\n1 0 0 1\nREFUSED 14\nDONE\n";
+    let printed = "DONE\n1 0 0 1 1\nREFUSED 14\nDONE\n";
     assert_eq!(check(&script(&calls), printed), Ok(expected));
 }
 
@@ -185,11 +185,24 @@ fn refused_slots_before_and_after_a_job() {
 #[test]
 fn slots_of_more_cores() {
     let calls = [Release(1), Slot(16), Slot(3), SLOT, Slot(16)];
-    let printed = "DONE\n0 0 0 0\n0 0 0 0\n1 0 0 1\n1 1 0 1\n";
+    let printed = "DONE\n0 0 0 0\n0 0 0 0\n1 0 0 1 1\n1 1 0 1 1\n";
     assert_eq!(check(&script(&calls), printed), kept(1, 0, 0));
-    let idle = printed.replacen("1 1 0 1", "0 0 0 0", 1);
+    let idle = printed.replacen("1 1 0 1 1", "0 0 0 0", 1);
     let expected = broken(5, "a job of task 1 is not closed");
     assert_eq!(check(&script(&calls), &idle), expected);
+}
+
+// The demand does not read the cores, whatever they are.
+#[test]
+fn cores_play_no_part() {
+    let calls = [Release(1), SLOT, SLOT, SLOT, SLOT];
+    for core in ["", " 1", " 2", " 0", " 17", " 1 1"] {
+        let printed = format!("DONE\n1 0 0 1 1\n1 1 0 1{core}\n0 0 0 0\n0 0 0 0\n");
+        assert_eq!(check(&script(&calls), &printed), kept(1, 0, 0), "{core}");
+    }
+    let expected = broken(3, "no answer of a slot: 1 1 0 1 x");
+    let printed = "DONE\n1 0 0 1 1\n1 1 0 1 x\n";
+    assert_eq!(check(&script(&calls), printed), expected);
 }
 
 #[test]
@@ -198,8 +211,8 @@ fn answers_of_another_form() {
     assert_eq!(check(&script(&calls), "DONE\n"), broken(2, "no answer"));
     let expected = broken(2, "no answer of a slot: DONE");
     assert_eq!(check(&script(&calls), "DONE\nDONE\n"), expected);
-    let expected = broken(1, "no answer to such a call: 1 0 0 1");
-    assert_eq!(check(&script(&calls), "1 0 0 1\n1 0 0 1\n"), expected);
+    let expected = broken(1, "no answer to such a call: 1 0 0 1 1");
+    assert_eq!(check(&script(&calls), "1 0 0 1 1\n1 0 0 1 1\n"), expected);
 }
 
 #[test]

@@ -1,17 +1,19 @@
 //! Generated scripts: everything that the program prints against the simulated
-//! machine, and demand 3 on what it prints for admitted tables. SEED and SCRIPTS
-//! change which and how many; some 2,000 scripts meet every kind of answer.
+//! machine, the rules of cores on what it prints, and demand 3 on what it prints for
+//! admitted tables. SEED and SCRIPTS change which and how many; some 2,000 scripts
+//! meet every kind of answer.
 
-use std::collections::BTreeMap;
+use std::collections::{BTreeMap, BTreeSet};
 use std::io::{Write, stdout};
 use std::ops::Range;
 
+use edzl_tests::cores::Assigned;
 use edzl_tests::machine::Slot;
 use edzl_tests::promise::Kept;
 use edzl_tests::script::{Answer, Call, Script, lines};
 use edzl_tests::tasks::MOST_TASKS;
 use edzl_tests::ties::Ties;
-use edzl_tests::{parts, program, promise, scripts, settings, ties};
+use edzl_tests::{assignment, cores, parts, program, promise, scripts, settings, ties};
 
 const SCRIPTS: u64 = 20_000;
 
@@ -41,10 +43,12 @@ const KINDS: [&str; 20] = [
     "TABLE REFUSED 7",
 ];
 
-// What must happen among them, and nothing else may: no late job on an admitted
-// table, no tie there among more urgent tasks than cores, and no accepted join on
-// a refused one.
-const EVENTS: [&str; 30] = [
+// What must happen among them with the events of a slot's cores, and nothing else
+// may: no late job on an admitted table, no tie there among more urgent tasks than
+// cores, and no accepted join on a refused one.
+const EVENTS: [&str; 33] = [
+    "a core above k, given up",
+    "a core kept from the slot before",
     "a finish before the job ran",
     "a finish of a job that ran",
     "a job closed by a finish in time, table admitted",
@@ -74,6 +78,7 @@ const EVENTS: [&str; 30] = [
     "a table admitted",
     "a table grown to 32 tasks",
     "a table not admitted",
+    "a task back after a pause, on another core",
     "an accepted join, table admitted",
 ];
 
@@ -143,6 +148,9 @@ impl Tally {
         self.finishes(script, answers);
         self.joins(script, answers, admitted);
         self.ties(script, admitted);
+        for name in assignment::met(script) {
+            self.event(name, 1);
+        }
     }
 
     fn kind(&mut self, kind: String) {
@@ -238,6 +246,14 @@ impl Tally {
         self.event(names[4], kept.too_late_if_counted);
     }
 
+    // The runners of a script, by what became of their cores.
+    fn assigned(&mut self, assigned: Assigned) {
+        self.event("a core kept from the slot before", assigned.kept);
+        self.event("a core above k, given up", assigned.above_k);
+        let back = assigned.back_on_another;
+        self.event("a task back after a pause, on another core", back);
+    }
+
     // Accepted finishes, of jobs that ran since their release and of others.
     fn finishes(&mut self, script: &Script, answers: &[Answer]) {
         let mut ran = 0;
@@ -309,8 +325,10 @@ impl Tally {
             kinds, KINDS,
             "the kinds of answers met, and the expected ones"
         );
-        let events: Vec<&str> = self.events.keys().copied().collect();
-        assert_eq!(events, EVENTS, "the events met, and the expected ones");
+        let met: BTreeSet<&str> = self.events.keys().copied().collect();
+        let of_slots = assignment::EVENTS.iter().map(|(name, _)| *name);
+        let expected: BTreeSet<&str> = EVENTS.into_iter().chain(of_slots).collect();
+        assert_eq!(met, expected, "the events met, and the expected ones");
         let ties = TIES.as_flattened().iter();
         for (name, times) in ties.filter_map(|name| self.events.get_key_value(name)) {
             let least = scripts / SCRIPTS_FOR_A_TIE;
@@ -334,7 +352,7 @@ fn kind(call: Call, answer: Answer) -> String {
     }
 }
 
-// One script through the program: the same output, and demand 3.
+// One script through the program: the same output, the rules of cores, and demand 3.
 fn compare(script: &Script, tally: &mut Tally) -> Result<(), String> {
     let answers = script.play();
     let (expected, actual) = (lines(&answers), program::replay_output(&script.text()));
@@ -350,6 +368,8 @@ fn compare(script: &Script, tally: &mut Tally) -> Result<(), String> {
         let kept = promise::check(script, &actual);
         tally.kept(kept.map_err(|fault| failure(&format!("demand 3 is broken: {fault}")))?);
     }
+    let assigned = cores::check(script, &actual);
+    tally.assigned(assigned.map_err(|fault| failure(&format!("cores: {fault}")))?);
     if expected != actual {
         return Err(failure(&program::first_difference(&expected, &actual)));
     }

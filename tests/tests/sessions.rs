@@ -1,5 +1,5 @@
 //! Literal sessions: cases j and k of document 01, "Cases at the edges", worked
-//! out afresh for change 2 of document 02, slots with cores of their own (its
+//! out afresh for changes 2 and 4 of document 02, slots with cores of their own (its
 //! change 1), and the two task sets that document 000 simulates.
 
 use edzl_tests::program;
@@ -9,7 +9,7 @@ use edzl_tests::tasks::Task;
 
 const CASE_J: [Task; 3] = [Task::new(6, 2, 3), Task::new(6, 2, 3), Task::new(6, 5, 6)];
 const CASE_J_PRINTED: &str = "DONE\nDONE\nDONE\n\
-    3 0 0 2\n5 1 0 2\n6 2 0 2\n4 0 0 1\n4 0 0 1\n4 4 0 1\n";
+    3 0 0 2 1 2\n5 1 0 2 1 2\n6 2 0 2 1 2\n4 0 0 1 2\n4 0 0 1 2\n4 4 0 1 2\n";
 
 // Every task released at the start of each of its periods, slots on m cores.
 fn released_periodically(cores: u32, table: &[Task], slots: u32) -> Script {
@@ -22,7 +22,8 @@ fn released_periodically(cores: u32, table: &[Task], slots: u32) -> Script {
     script(cores, table, calls)
 }
 
-// While both are open, tasks 1 and 2 owe the same, so the number decides.
+// While both are open, tasks 1 and 2 owe the same, so the number decides. Task 3 takes
+// core 2 in slot 2 and keeps it, so that task 2 takes core 1 in slot 3.
 #[test]
 fn case_j() {
     check(&released_at_once(2, &CASE_J, 6), CASE_J_PRINTED);
@@ -33,7 +34,7 @@ fn case_j() {
 #[test]
 fn case_k() {
     let table = [Task::new(5, 5, 5), Task::new(5, 5, 5)];
-    let expected = "DONE\nDONE\n1 0 0 1\n2 0 0 1\n1 0 0 1\n2 0 0 1\n1 0 3 1\n";
+    let expected = "DONE\nDONE\n1 0 0 1 1\n2 0 0 1 1\n1 0 0 1 1\n2 0 0 1 1\n1 0 3 1 1\n";
     check(&released_at_once(1, &table, 5), expected);
 }
 
@@ -49,7 +50,7 @@ fn case_k_as_bytes() {
     assert_eq!(script.text(), text);
     check(
         &script,
-        "DONE\nDONE\n1 0 0 1\nDONE\n2 0 0 1\nREFUSED 13\n2 0 0 1\n",
+        "DONE\nDONE\n1 0 0 1 1\nDONE\n2 0 0 1 1\nREFUSED 13\n2 0 0 1 1\n",
     );
 }
 
@@ -60,7 +61,7 @@ fn the_gap_outlasts_the_job() {
         RELEASE 1\nSLOT 1\nRELEASE 1\nSLOT 1\nRELEASE 1\nSLOT 1\nRELEASE 1\nFINISH 1\n\
         RELEASE 1\nFINISH 1\nSLOT 1\nSLOT 1\nRELEASE 1\nSLOT 1\nRELEASE 1\n";
     let expected =
-        b"DONE\n1 1 0 1\nREFUSED 9\n0 0 0 0\nREFUSED 9\n0 0 0 0\nDONE\nDONE\nREFUSED 9\n\
+        b"DONE\n1 1 0 1 1\nREFUSED 9\n0 0 0 0\nREFUSED 9\n0 0 0 0\nDONE\nDONE\nREFUSED 9\n\
         REFUSED 11\n0 0 0 0\n0 0 0 0\nREFUSED 9\n0 0 0 0\nDONE\n";
     assert_eq!(program::replay_output(text), expected);
 }
@@ -71,7 +72,7 @@ fn urgent_jobs_go_by_left() {
     let table = [Task::new(5, 5, 5), Task::new(3, 3, 3)];
     let mut script = released_at_once(1, &table, 5);
     script.calls.extend([Call::Finish(1), Call::Release(1)]);
-    let expected = "DONE\nDONE\n2 0 0 1\n2 0 0 1\n2 2 0 1\n1 0 0 1\n1 0 1 1\n\
+    let expected = "DONE\nDONE\n2 0 0 1 1\n2 0 0 1 1\n2 2 0 1 1\n1 0 0 1 1\n1 0 1 1 1\n\
         REFUSED 11\nDONE\n";
     check(&script, expected);
 }
@@ -79,8 +80,8 @@ fn urgent_jobs_go_by_left() {
 // A refused slot between any two slots of case j: the other answers stay.
 #[test]
 fn a_refused_slot_changes_no_other_answer() {
-    let expected = "DONE\nDONE\nDONE\n3 0 0 2\nREFUSED 14\n5 1 0 2\nREFUSED 14\n\
-        6 2 0 2\nREFUSED 14\n4 0 0 1\nREFUSED 14\n4 0 0 1\nREFUSED 14\n4 4 0 1\n";
+    let expected = "DONE\nDONE\nDONE\n3 0 0 2 1 2\nREFUSED 14\n5 1 0 2 1 2\nREFUSED 14\n\
+        6 2 0 2 1 2\nREFUSED 14\n4 0 0 1 2\nREFUSED 14\n4 0 0 1 2\nREFUSED 14\n4 4 0 1 2\n";
     assert_eq!(expected.replace("REFUSED 14\n", ""), CASE_J_PRINTED);
     for k in [0, 1, 17, 4_294_967_295] {
         let slots = [2, k, 2, k, 2, k, 2, k, 2, k, 2];
@@ -95,7 +96,7 @@ fn refused_slots_take_no_time() {
     let text = b"CORES 2\nPERIOD BUDGET DEADLINE\n4 2 2\nCALLS\n\
         RELEASE 1\nSLOT 1\nSLOT 1\nSLOT 2\nSLOT 2\n\
         SLOT 1\nSLOT 17\nRELEASE 1\nSLOT 2\nSLOT 0\nRELEASE 1\nSLOT 2\nRELEASE 1\n";
-    let expected = b"DONE\nREFUSED 14\nREFUSED 14\n1 0 0 1\n1 1 0 1\n\
+    let expected = b"DONE\nREFUSED 14\nREFUSED 14\n1 0 0 1 1\n1 1 0 1 1\n\
         REFUSED 14\nREFUSED 14\nREFUSED 9\n0 0 0 0\nREFUSED 14\nREFUSED 9\n0 0 0 0\nDONE\n";
     assert_eq!(program::replay_output(text), expected);
 }
@@ -109,13 +110,35 @@ fn the_k_that_are_accepted() {
         let slots: Vec<u32> = (0..=20).chain(odd).chain(far).collect();
         let script = released_then(m, &[Task::new(99, 99, 99)], &slots);
         let answer = |k: &u32| match (m..=16).contains(k) {
-            true => "1 0 0 1\n",
+            true => "1 0 0 1 1\n",
             false => "REFUSED 14\n",
         };
         let answers: String = slots.iter().map(answer).collect();
         check(&script, &format!("DONE\n{answers}"));
     }
 }
+
+// The cores of the slots below. Up to slot 10 nobody runs in two slots in a row, and
+// the runners have cores 1 to k in turn. Slot 11 is the first with a keeper, task 6
+// with core 1, last in precedence.
+const CORES_IN_TURN: [&str; 16] = [
+    "1",
+    "1 2",
+    "1 2 3",
+    "1 2 3 4",
+    "1 2 3 4 5",
+    "6 1 2 3 4 5",
+    "1 2 3 4 5 6 7",
+    "1 2 3 4 5 6 7 8",
+    "5 6 7 8 9 1 2 3 4",
+    "1 2 3 4 5 6 7 8 9 10",
+    "7 8 9 10 11 1 2 3 4 5 6",
+    "1 5 6 7 8 9 10 11 12 2 3 4",
+    "4 9 10 11 12 13 1 5 6 7 8 2 3",
+    "4 9 10 11 12 1 5 6 7 8 13 14 2 3",
+    "4 9 10 11 12 15 1 5 6 7 8 13 14 2 3",
+    "2 3 13 14 16 4 9 10 11 12 15 1 5 6 7 8",
+];
 
 // 20 equal tasks on 1 core take turns: each slot runs the k tasks after those of
 // the slot before, from task 1 again after task 20. They are never urgent.
@@ -126,28 +149,31 @@ fn more_open_tasks_than_k() {
     // After k slots 1 + 2 + .. + k turns were taken.
     let turns = |k: u32| k * (k + 1) / 2;
     let ran = |k: u32| (turns(k - 1)..turns(k)).map(|turn| 1 << (turn % 20));
-    let answer = |k: &u32| format!("{} 0 0 {k}\n", ran(*k).sum::<u32>());
-    let answers: String = slots.iter().map(answer).collect();
-    assert!(answers.starts_with("1 0 0 1\n6 0 0 2\n56 0 0 3\n960 0 0 4\n"));
+    let answer = |(k, cores): (&u32, &str)| format!("{} 0 0 {k} {cores}\n", ran(*k).sum::<u32>());
+    let answers: String = slots.iter().zip(CORES_IN_TURN).map(answer).collect();
+    assert!(answers.starts_with("1 0 0 1 1\n6 0 0 2 1 2\n56 0 0 3 1 2 3\n960 0 0 4 1 2 3 4\n"));
     check(&script, &("DONE\n".repeat(20) + &answers));
 }
 
-// Budgets so far apart that 16 slots leave their order: each slot runs the last k.
+// Budgets so far apart that 16 slots leave their order: each slot runs the last k, of
+// which the first is new and takes core k.
 #[test]
 fn more_open_tasks_than_k_and_the_last_owe_most() {
     let slots: Vec<u32> = (1..=16).collect();
     let table: Vec<Task> = (1..=20).map(|i| Task::new(999, 20 * i, 999)).collect();
     let script = released_then(1, &table, &slots);
-    let answer = |k: &u32| format!("{} 0 0 {k}\n", ((1 << k) - 1) << (20 - k));
+    let cores = |k: u32| (1..=k).rev().map(|core| format!(" {core}"));
+    let ran = |k: u32| ((1 << k) - 1) << (20 - k);
+    let answer = |k: &u32| format!("{} 0 0 {k}{}\n", ran(*k), cores(*k).collect::<String>());
     let answers: String = slots.iter().map(answer).collect();
-    assert!(answers.starts_with("524288 0 0 1\n786432 0 0 2\n917504 0 0 3\n"));
+    assert!(answers.starts_with("524288 0 0 1 1\n786432 0 0 2 2 1\n917504 0 0 3 3 2 1\n"));
     check(&script, &("DONE\n".repeat(20) + &answers));
 }
 
 #[test]
 fn more_open_tasks_than_m_and_fewer_than_k() {
     let table = [Task::new(9, 1, 9), Task::new(9, 2, 8), Task::new(9, 3, 7)];
-    let expected = "DONE\nDONE\nDONE\n7 1 0 3\n4 0 0 1\n6 6 0 2\n";
+    let expected = "DONE\nDONE\nDONE\n7 1 0 3 3 2 1\n4 0 0 1 1\n6 6 0 2 2 1\n";
     check(&released_then(1, &table, &[4, 1, 3]), expected);
 }
 
@@ -156,16 +182,18 @@ fn more_open_tasks_than_m_and_fewer_than_k() {
 fn all_16_cores_and_one_open_task_or_none() {
     let text = b"CORES 1\nPERIOD BUDGET DEADLINE\n4 2 4\n4 1 4\nCALLS\n\
         SLOT 16\nRELEASE 2\nSLOT 16\nSLOT 16\nRELEASE 1\nSLOT 16\nSLOT 1\n";
-    let expected = b"0 0 0 0\nDONE\n2 2 0 1\n0 0 0 0\nDONE\n1 0 0 1\n1 1 0 1\n";
+    let expected = b"0 0 0 0\nDONE\n2 2 0 1 1\n0 0 0 0\nDONE\n1 0 0 1 1\n1 1 0 1 1\n";
     assert_eq!(program::replay_output(text), expected);
 }
 
-// Later numbers have earlier deadlines and go first.
+// Later numbers have earlier deadlines and go first. Task 2 has core 4 until a slot of
+// k = 2, and task 1 the first core that is free when it comes.
 #[test]
 fn each_slot_has_its_own_k() {
     let table = [15, 14, 13, 12, 11].map(|deadline| Task::new(20, 3, deadline));
     let expected = "DONE\nDONE\nDONE\nDONE\nDONE\n\
-        28 0 0 3\n24 0 0 2\n30 24 0 4\n7 4 0 3\n3 2 0 2\nREFUSED 14\n1 1 0 1\n";
+        28 0 0 3 3 2 1\n24 0 0 2 2 1\n30 24 0 4 4 3 2 1\n7 4 0 3 1 4 3\n3 2 0 2 1 2\n\
+        REFUSED 14\n1 1 0 1 1\n";
     check(&released_then(2, &table, &[3, 2, 4, 16, 2, 1, 2]), expected);
 }
 
@@ -180,7 +208,7 @@ fn precedence_on_more_cores_than_m() {
         Task::new(8, 5, 5),
     ];
     let expected = "DONE\nDONE\nDONE\nDONE\n\
-        10 2 0 2\n8 0 0 1\n9 0 0 2\n12 4 0 2\n9 8 0 2\n1 0 1 1\n";
+        10 2 0 2 2 1\n8 0 0 1 1\n9 0 0 2 2 1\n12 4 0 2 2 1\n9 8 0 2 2 1\n1 0 1 1 2\n";
     check(&released_then(1, &table, &[2, 1, 2, 2, 2, 16]), expected);
 }
 
@@ -189,9 +217,10 @@ fn precedence_on_more_cores_than_m() {
 #[test]
 fn case_k_on_more_cores() {
     let table = [Task::new(5, 5, 5), Task::new(5, 5, 5)];
-    let expected = "DONE\nDONE\n3 0 0 2\n3 0 0 2\n3 0 0 2\n3 0 0 2\n3 3 0 2\n";
+    let both = "3 0 0 2 1 2\n".repeat(4);
+    let expected = &format!("DONE\nDONE\n{both}3 3 0 2 1 2\n");
     check(&released_then(1, &table, &[2, 16, 2, 3, 2]), expected);
-    let expected = "DONE\nDONE\n3 0 0 2\n1 0 0 1\n2 0 0 1\n1 0 0 1\n2 0 3 1\n";
+    let expected = "DONE\nDONE\n3 0 0 2 1 2\n1 0 0 1 1\n2 0 0 1 1\n1 0 0 1 1\n2 0 3 1 1\n";
     check(&released_then(1, &table, &[16, 1, 1, 1, 1]), expected);
 }
 

@@ -11,9 +11,9 @@ use Call::{Finish, Join, Release, Slot};
 
 const LONGEST: u32 = 1_000_000;
 
-// Slots in which one task runs, from what each of them prints.
+// Slots in which one task runs, on core 1, from what each of them prints before.
 fn alone(slots: &[&str]) -> String {
-    slots.iter().map(|slot| format!("{slot} 1\n")).collect()
+    slots.iter().map(|slot| format!("{slot} 1 1\n")).collect()
 }
 
 // Every task released once on 1 core, then slots in which one task runs.
@@ -52,7 +52,7 @@ fn the_longer_of_two_urgent_jobs_first() {
     ];
     check(
         &script(1, &table, calls.to_vec()),
-        "DONE\nDONE\n4 4 0 1\nDONE\n2 0 0 1\n1 0 3 1\n",
+        "DONE\nDONE\n4 4 0 1 1\nDONE\n2 0 0 1 1\n1 0 3 1 1\n",
     );
 }
 
@@ -70,7 +70,7 @@ fn two_urgent_jobs_take_turns() {
 #[test]
 fn three_urgent_jobs_on_two_cores() {
     let table = [Task::new(3, 3, 3); 3];
-    let expected = "DONE\nDONE\nDONE\n3 0 0 2\n5 0 0 2\n6 0 7 2\n";
+    let expected = "DONE\nDONE\nDONE\n3 0 0 2 1 2\n5 0 0 2 1 2\n6 0 7 2 1 2\n";
     check(&released_at_once(2, &table, 3), expected);
 }
 
@@ -104,7 +104,7 @@ fn the_budget_owed_against_a_larger_c_when_urgent() {
     let mut calls = vec![Release(1), Slot(1), Release(2)];
     calls.extend([Slot(1); 5]);
     let after = alone(&["1 0 0", "2 0 0", "1 0 0", "2 0 0", "1 0 3"]);
-    let expected = format!("DONE\n1 0 0 1\nDONE\n{after}");
+    let expected = format!("DONE\n1 0 0 1 1\nDONE\n{after}");
     check(&script(1, &table, calls), &expected);
 }
 
@@ -152,7 +152,8 @@ fn urgency_goes_before_left() {
 #[test]
 fn the_longer_job_takes_the_core_beside_an_urgent_one() {
     let table = [Task::new(9, 9, 9), Task::new(9, 1, 4), Task::new(9, 3, 4)];
-    let expected = "DONE\nDONE\nDONE\n5 0 0 2\n5 0 0 2\n3 2 0 2\n5 4 0 2\n1 0 0 1\n";
+    let expected = "DONE\nDONE\nDONE\n\
+        5 0 0 2 1 2\n5 0 0 2 1 2\n3 2 0 2 1 2\n5 4 0 2 1 2\n1 0 0 1 1\n";
     check(&released_at_once(2, &table, 5), expected);
 }
 
@@ -168,25 +169,28 @@ fn a_joined_task_that_owes_more() {
     calls.extend([Finish(2), Slot(1)]);
     let script = script(1, &[Task::new(20, 2, 10)], calls);
     assert_eq!(script.text(), text);
-    let expected = "DONE\nDONE\nDONE\n2 0 0 1\n1 0 0 1\n2 0 0 1\nDONE\n1 1 0 1\n";
+    let expected = "DONE\nDONE\nDONE\n2 0 0 1 1\n1 0 0 1 1\n2 0 0 1 1\nDONE\n1 1 0 1 1\n";
     check(&script, expected);
 }
 
 // 32 tasks of one deadline and C 1 to 32 on 16 cores. The upper half runs first;
 // then its lowest tasks owe no more than the highest of the lower half, and the
-// lower numbers go before them. Never urgent: left is 40 to 35.
+// lower numbers go before them. Never urgent: left is 40 to 35. Tasks 20 to 32 have
+// cores 13 to 1 in every slot; those before them are given here.
 #[test]
 fn thirty_two_tasks_on_16_cores() {
     let table: Vec<Task> = (1..=32).map(|i| Task::new(40, i, 40)).collect();
-    let ran: [u32; 6] = [
-        0xffff_0000, // 17 to 32
-        0xfffe_8000, // 16, 18 to 32: tasks 16 and 17 owe 16
-        0xffff_0000, // 17 to 32: tasks 15 and 16 owe 15
-        0xfffc_c000, // 15, 16, 19 to 32: tasks 15 to 18 owe 15
-        0xffff_0000, // 17 to 32: tasks 14 to 16 owe 14
-        0xfff8_e000, // 14 to 16, 20 to 32: tasks 14 to 19 owe 14
+    let ran: [(u32, &str); 6] = [
+        (0xffff_0000, "16 15 14"), // 17 to 32
+        (0xfffe_8000, "16 15 14"), // 16, 18 to 32: tasks 16 and 17 owe 16
+        (0xffff_0000, "16 15 14"), // 17 to 32: tasks 15 and 16 owe 15
+        (0xfffc_c000, "15 16 14"), // 15, 16, 19 to 32: tasks 15 to 18 owe 15
+        (0xffff_0000, "15 16 14"), // 17 to 32: tasks 14 to 16 owe 14
+        (0xfff8_e000, "14 15 16"), // 14 to 16, 20 to 32: tasks 14 to 19 owe 14
     ];
-    let answers: String = ran.iter().map(|ran| format!("{ran} 0 0 16\n")).collect();
+    let rest = "13 12 11 10 9 8 7 6 5 4 3 2 1";
+    let answer = |(ran, cores): &(u32, &str)| format!("{ran} 0 0 16 {cores} {rest}\n");
+    let answers: String = ran.iter().map(answer).collect();
     let expected = "DONE\n".repeat(32) + &answers;
     check(&released_at_once(16, &table, 6), &expected);
 }

@@ -6,7 +6,7 @@ use machine::machine::Machine;
 use tasks::limits::MAX_TASKS;
 use tasks::limits::MAX_TEXT_LENGTH;
 use text::output::put_numbers;
-ghost use Prim.Native.Nat.{_≤_};
+ghost use Prim.Native.Nat.{_^_, _≤_, _<_};
 ghost use Rattle.tasks.specs.Limits.{maxTasks};
 
 // One byte more than a text may have, so that a longer one is seen to be too long.
@@ -26,12 +26,34 @@ fn folded(sum: u64, number: u64) -> u64 {
     (sum % MODULUS * 31 + number % MODULUS) % MODULUS
 }
 
-// The checksum with one more report.
+// A core with 64 bits.
+fn wide(core: u32) -> u64
+    ensures { λ r. ⌜ r < 2 ^ 32 ⌝ }
+{
+    core as u64
+}
+
+// The cores of a slot as one number: for each task the sum of the cores up to its own, all of them summed up.
+fn cores_number(assigned: [u32; MAX_TASKS]) -> u64 {
+    let mut number: u64 = 0;
+    let mut running: u64 = 0;
+    let mut i: usize = 0;
+    while i < MAX_TASKS {
+        running += wide(assigned[i]);
+        number += running;
+        i += 1;
+    }
+    number
+}
+
+// The checksum with one more report: who ran, finished and was late, and the cores.
 fn with_report(sum: u64, report: Report) -> u64 {
     let ran = report.ran;
     let finished = report.finished;
     let late = report.late;
-    folded(folded(folded(sum, mask(ran)), mask(finished)), mask(late))
+    let assigned = report.assigned;
+    let tasks = folded(folded(folded(sum, mask(ran)), mask(finished)), mask(late));
+    folded(tasks, cores_number(assigned))
 }
 
 // Whether a release of the job's task would be accepted.

@@ -1,6 +1,6 @@
 -- Which numbers are among those of a list. Others cite: `some-inside`, that past its end a list reads as 0; `among-index` and `among-at`, by an index; `among-set`, after an entry that was 0 or the same is
--- set; and `among-more`, with one more at the end.
-use Prim.Native.Nat.{ℕ, zero, suc, _≤_, _<_}
+-- set; `among-more`, with one more at the end; and `among-few`, that no more are among a list than it has entries.
+use Prim.Native.Nat.{ℕ, zero, suc, _+_, _≤_, _<_}
 use mathlib.Core.Path.{_≡_, refl, _∙_}
 use mathlib.Core.List.{List, [], _∷_, _++_}
 use mathlib.Core.Bool.{Bool, true, false, _||_, or-assoc, or-true, or-comm}
@@ -9,7 +9,9 @@ use native.Mathlib.Omega.{arith}
 use lib.Dec.{eqb}
 use lib.ListN.{length, getD, set, List·getD-eq-default}
 use borrow.Author.Tests.{eqb-true, eq-eqb, ne-eqb}
-use Rattle.laws.proofs.CaseSplits.{by-test, by-order, not-both}
+use Rattle.laws.proofs.CaseSplits.{by-test, by-equal, by-order, not-both}
+use Rattle.edzl.specs.Sums.{sumTo, bit}
+use Rattle.edzl.proofs.SumLaws.{sum-bound, bit-false}
 use Rattle.cores.specs.Assign.{isAmong}
 
 pub some-inside : (l : List ℕ) (i : ℕ) → 1 ≤ getD l i 0 → i < length l
@@ -49,3 +51,32 @@ pub among-more : (l : List ℕ) (x n : ℕ) → isAmong (l ++ x ∷ []) n ≡ (i
 unfolding isAmong
 among-more [] x n = or-comm (eqb x n) false
 among-more (y ∷ l) x n = rw (among-more l x n) (by-test (eqb y n) (λ t. rw t) (λ f. rw f))
+
+-- a number is one of those below n at most once
+none-below : (x n : ℕ) → n ≤ x → sumTo n (λ i. bit (eqb x i)) ≡ 0
+unfolding sumTo bit
+none-below x zero h = refl
+none-below x (suc n) h = rw (ne-eqb x n (λ e. omega arith)) (omega (arith, none-below x n (omega arith)))
+
+once-below : (x n : ℕ) → sumTo n (λ i. bit (eqb x i)) ≤ 1
+unfolding sumTo bit
+once-below x zero = omega arith
+once-below x (suc n) =
+    by-equal x n
+    (λ e. rw (eq-eqb x n e) (omega (arith, none-below x n (omega arith))))
+    (λ ne. rw (ne-eqb x n ne) (omega (arith, once-below x n)))
+
+either-few : (p q : ℕ → Bool) (n : ℕ) → sumTo n (λ i. bit (p i || q i)) ≤ sumTo n (λ i. bit (p i)) + sumTo n (λ i. bit (q i))
+unfolding sumTo bit
+either-few p q zero = omega arith
+either-few p q (suc n) =
+    let rest = either-few p q n in
+    by-test (p n) (λ t. rw t (omega (arith, rest))) (λ f. rw f (omega (arith, rest)))
+
+pub among-few : (l : List ℕ) (n : ℕ) → sumTo n (λ i. bit (isAmong l i)) ≤ length l
+unfolding isAmong
+among-few [] n = none-few n
+  where
+    none-few : (n : ℕ) → sumTo n (λ i. bit false) ≤ 0
+    none-few n = omega (arith, sum-bound (λ i. bit false) 0 n (λ i h. omega (arith, bit-false false refl)))
+among-few (x ∷ l) n = omega (arith, either-few (eqb x) (isAmong l) n, once-below x n, among-few l n)

@@ -1,4 +1,4 @@
--- The runners that keep their cores, from the last to the first, as the code goes: `Keeping`, with `keeping-none`, `keeping-more`, `keeping-large` and
+-- The runners that keep their cores, from the last to the first, as the code goes: `Keeping`, with `keeping-length`, `keeping-none`, `keeping-more`, `keeping-large` and
 -- `keeping-far`.
 use Prim.Native.Nat.{ℕ, suc, _-_, _≤_, _<_}
 use mathlib.Core.Path.{_≡_, refl, sym, ap, _∙_}
@@ -23,6 +23,11 @@ pub record Keeping (recorded : List ℕ) (k : ℕ) (runners cores : List ℕ) (u
   pub within : n ≤ length runners
   pub are : cores ≡ kept recorded k (drop n runners)
   pub flagged : Flagged cores used
+
+pub keeping-length :
+    {recorded : List ℕ} {k : ℕ} {runners cores : List ℕ} {used : List Bool} {n : ℕ} → Keeping recorded k runners cores used n
+    → length cores ≡ maxTasks
+keeping-length {recorded} {k} {runners} {cores} {used} {n} now = rw (now .are) (length-kept recorded k (drop n runners))
 
 -- no core is among zeros
 none-among : (n x : ℕ) → 1 ≤ x → isAmong (replicate n 0) x ≡ false

@@ -1,26 +1,36 @@
 -- The cores that runners keep. Others cite: `length-kept`; `kept-at`, each entry; `kept-some`, what an entry that is not 0 is (`Keeps`); and `kept-count`,
--- that the cores kept and the runners without one are no more than the runners.
+-- that the cores kept and the runners without one are no more than the runners. Of lists: `isDistinct` with `distinct-more`, and `AllInside`.
 use Prim.Native.Nat.{ℕ, zero, suc, _+_, _≤_, _<_}
 use mathlib.Core.Path.{_≡_, refl, sym, _∙_}
-use mathlib.Core.List.{List, [], _∷_}
+use mathlib.Core.List.{List, [], _∷_, _++_}
 use mathlib.Core.Bool.{Bool, true, false, cond, not, _&&_, or-true}
 use native.Mathlib.Omega.{arith}
 use lib.Dec.{eqb, leb}
 use lib.ListN.{length, getD, set, length-set, length-replicate}
 use lib.Seq.{getD-set-same, getD-set-other, set-getD}
 use borrow.Author.Tests.{leb-true, eqb-true, eq-eqb, ne-eqb, not-true}
-use Rattle.laws.proofs.CaseSplits.{by-test, by-equal}
+use Rattle.laws.proofs.CaseSplits.{by-test, by-equal, not-both}
 use Rattle.laws.proofs.Booleans.{and-left, and-right}
 use Rattle.laws.proofs.Replaced.{replicate-entry}
 use Rattle.tasks.specs.Limits.{maxTasks}
 use Rattle.cores.specs.Assign.{keptCore, kept, isAmong}
 use Rattle.cores.proofs.UnusedLaws.{someCount, none-some, some-set}
-use Rattle.cores.proofs.AmongLaws.{some-inside, among-at}
+use Rattle.cores.proofs.AmongLaws.{some-inside, among-at, among-more}
 
 -- no number stands in the list twice
 unfoldable pub isDistinct : List ℕ → Bool
 isDistinct [] = true
 isDistinct (x ∷ l) = not (isAmong l x) && isDistinct l
+
+pub distinct-more : (l : List ℕ) (x : ℕ) → isDistinct l ≡ true → isAmong l x ≡ false → isDistinct (l ++ x ∷ []) ≡ true
+unfolding isDistinct isAmong
+distinct-more [] x d new = refl
+distinct-more (y ∷ l) x d new =
+    let apart : eqb y x ≡ false = by-test (eqb y x) (λ t. not-both true refl (rw t at new)) (λ f. f) in
+    let rest : isAmong l x ≡ false = rw apart at new in
+    let old : isAmong l y ≡ false = not-true (isAmong l y) (and-left _ _ d) in
+    let other : eqb x y ≡ false = ne-eqb x y (λ e. not-both (eqb y x) (eq-eqb y x (sym e)) apart) in
+    rw (among-more l x y, old, other) (distinct-more l x (and-right (not (isAmong l y)) _ d) rest)
 
 -- every number of the list is a task's index
 pub record AllInside (l : List ℕ) : Type 0 where

@@ -1,8 +1,10 @@
+pub mod Computing
+pub mod ExamplesHold
 pub mod AmongLaws
 pub mod RecordLaws
 pub mod UnusedLaws
 pub mod KeptLaws
-pub mod AssignLaws
+pub mod OwnCores
 pub mod Flags
 pub mod Keeping
 pub mod Taking

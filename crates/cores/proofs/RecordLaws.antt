@@ -1,4 +1,5 @@
--- Sound records of cores, entry by entry: `Apart`, with `sound-apart` and `apart-sound`. Of a part of one: `sound-drop`.
+-- Sound records of cores, entry by entry: `Apart`, with `sound-apart` and `apart-sound`; `apart-same`, of a list whose entries are the same or 0. Of a part
+-- of a sound record: `sound-drop`.
 use Prim.Native.Nat.{ℕ, zero, suc, _≤_, _<_}
 use mathlib.Core.Path.{_≡_, refl, sym, _∙_}
 use mathlib.Core.List.{List, [], _∷_}
@@ -7,7 +8,7 @@ use native.Mathlib.Omega.{arith}
 use lib.Dec.{eqb, leb}
 use lib.ListN.{length, getD, drop}
 use borrow.Author.Tests.{leb-true, le-leb, eqb-true, eq-eqb, ne-eqb, not-true}
-use Rattle.laws.proofs.CaseSplits.{by-test, by-equal, not-both}
+use Rattle.laws.proofs.CaseSplits.{by-test, by-equal, by-order, not-both}
 use Rattle.laws.proofs.Booleans.{and-left, and-right}
 use Rattle.tasks.specs.Limits.{maxCores}
 use Rattle.cores.specs.Assign.{isAmong}
@@ -69,6 +70,16 @@ sound-apart (x ∷ l) e =
               | suc j' ↦ λ same some. let e : i' ≡ j' = r .apart i' j' same some in rw e
             ]
           ];
+    }
+
+pub apart-same : (l l' : List ℕ) → Apart l → ((i : ℕ) → 1 ≤ getD l' i 0 → getD l' i 0 ≡ getD l i 0) → Apart l'
+apart-same l l' a same =
+    record {
+      within = λ i. by-order 1 (getD l' i 0) (λ some. rw (same i some) (a .within i)) (λ none. omega arith);
+      apart = λ i j e some.
+          let si = same i some in
+          let sj = same j (rw e at some) in
+          a .apart i j (sym si ∙ e ∙ sj) (rw si at some);
     }
 
 pub apart-sound : (l : List ℕ) → Apart l → coresSound l ≡ true

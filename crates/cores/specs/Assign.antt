@@ -1,5 +1,5 @@
--- Which core each runner of a slot has: document 02, change 4. A list of cores has one for each task, 0 for no core. Tasks are named by their
--- indexes, from 0, and the runners are listed in precedence.
+-- Which core each runner of a slot has: document 02, change 4. A list of cores has an entry for each of the tasks that a table may have, 0
+-- for no core. Tasks are named by their indexes, from 0, and the runners are listed in precedence.
 use Prim.Native.Nat.{ℕ, zero, suc}
 use mathlib.Core.List.{List, [], _∷_}
 use mathlib.Core.Bool.{Bool, false, cond, _||_}
@@ -7,7 +7,8 @@ use lib.Dec.{eqb, leb}
 use lib.ListN.{getD, set, replicate}
 use Rattle.tasks.specs.Limits.{maxTasks}
 
--- "A task that runs again and whose core is among 1 to k keeps it.": the core that a runner keeps, by its recorded one; 0 where it keeps none
+-- "A task that runs again and whose core is among 1 to k keeps it.": the core that a runner keeps, by its recorded one; 0, which
+-- is no core, where it keeps none
 unfoldable pub keptCore : (recorded k : ℕ) → ℕ
 keptCore recorded k = cond (leb recorded k) recorded 0
 
@@ -33,6 +34,7 @@ taken k [] cores = cores
 taken k (i ∷ runners) cores =
     taken k runners (cond (eqb (getD cores i 0) 0) (set cores i (firstUnused (isAmong cores) 1 k)) cores)
 
--- the core of each runner of a slot with k cores, and 0 for every other task: first all keepers keep, "then the other runners .. take"
+-- the core of each runner of a slot with k cores, and 0 for every other task: first every keeper keeps its core, and then "The
+-- other runners, in precedence, take" theirs
 unfoldable pub assignment : (recorded : List ℕ) → (k : ℕ) → (runners : List ℕ) → List ℕ
 assignment recorded k runners = taken k runners (kept recorded k runners)

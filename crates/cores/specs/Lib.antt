@@ -1,3 +1,4 @@
 pub mod Assign
 pub mod Record
 pub mod Used
+pub mod Examples

@@ -1,4 +1,5 @@
--- Flags for the cores that tasks have, for the contract of a private function.
+-- Flags for the cores that tasks have, for the contract of a private function. There are as many as a list of cores has entries, and one more: whatever the
+-- number of cores, one of these is unused while an entry is 0.
 use Prim.Native.Nat.{ℕ, suc, _≤_}
 use mathlib.Core.Path.{_≡_}
 use mathlib.Core.List.{List}

@@ -1,20 +1,15 @@
 // Which core each runner of a slot has.
 use tasks::limits::MAX_TASKS;
-ghost use Prim.Native.Nat.{min};
+ghost use Prim.Native.Nat.{suc, min};
 ghost use mathlib.Core.Path.{_≡_};
 ghost use mathlib.Core.Bool.{false};
-ghost use lib.ListN.{getD};
+ghost use lib.ListN.{getD, replicate};
+ghost use Rattle.tasks.specs.Limits.{maxTasks};
 ghost use Rattle.cores.specs.Assign.{keptCore, firstUnused, assignment};
 ghost use Rattle.cores.specs.Used.{KeptCores};
 
 // A flag for 0 and for as many cores as there are tasks: while a task has none, one of these is unused.
 const FLAGS: usize = 33;
-
-// The core of each task, and a flag for each core that a task has.
-struct Cores {
-    cores: [u32; MAX_TASKS],
-    used: [bool; FLAGS],
-}
 
 // The core that a runner keeps, by its recorded one: 0 where it keeps none.
 fn kept_core(recorded: u32, available: u32) -> u32
@@ -26,12 +21,17 @@ fn kept_core(recorded: u32, available: u32) -> u32
     0
 }
 
-// The cores of the runners that keep theirs.
-fn kept(recorded: [u32; MAX_TASKS], runners: &[usize], available: u32) -> Cores
-    ensures { λ r. ⌜ KeptCores recorded available (now (runners .entry)) (r .cores) (r .used) ⌝ }
+// Puts the cores of the runners that keep theirs into an array of no cores, and their flags into one of none.
+fn keep(
+    recorded: [u32; MAX_TASKS],
+    runners: &[usize],
+    available: u32,
+    cores: &mut [u32],
+    used: &mut [bool],
+)
+    requires { ⌜ (now cores ≡ replicate maxTasks 0) × (now used ≡ replicate (suc maxTasks) false) ⌝ }
+    ensures { λ r. ⌜ KeptCores recorded available (now (runners .entry)) (now (cores .exit)) (now (used .exit)) ⌝ }
 {
-    let mut cores = [0u32; MAX_TASKS];
-    let mut used = [false; FLAGS];
     let mut n = runners.len();
     while 0 < n {
         n -= 1;
@@ -44,7 +44,6 @@ fn kept(recorded: [u32; MAX_TASKS], runners: &[usize], available: u32) -> Cores
             }
         }
     }
-    Cores { cores, used }
 }
 
 // The lowest core that is not used, of those that have a flag: 0 where there is none up to the number available.
@@ -69,9 +68,9 @@ fn first_unused(used: [bool; FLAGS], available: u32) -> usize
 pub fn assign(recorded: [u32; MAX_TASKS], runners: &[usize], available: u32) -> [u32; MAX_TASKS]
     ensures { λ r. ⌜ r ≡ assignment recorded available (now (runners .entry)) ⌝ }
 {
-    let start = kept(recorded, runners, available);
-    let mut cores = start.cores;
-    let mut used = start.used;
+    let mut cores = [0u32; MAX_TASKS];
+    let mut used = [false; FLAGS];
+    keep(recorded, runners, available, &mut cores, &mut used);
     let mut n: usize = 0;
     while n < runners.len() {
         let i = runners[n];

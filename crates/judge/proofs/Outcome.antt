@@ -1,4 +1,4 @@
--- What a verdict says of the judging. Others cite: `outcome-is`, `judged-not-0` and `refused-outcome`, of a refusal; `JudgedValues` with
+-- What a verdict says of the judging. Others cite: `outcome-is`, `judged-numbered` and `refused-outcome`, of a refusal; `JudgedValues` with
 -- `judged-values`, of COUNT and the admission; `count-small`; and `Admits` with `admits-means`, of a table that is admitted.
 use Prim.Native.Nat.{ℕ, _≤_}
 use native.Mathlib.Omega.{arith}
@@ -9,8 +9,8 @@ use Rattle.tasks.specs.declared.table.Table.{Table}
 use Rattle.tasks.specs.declared.outcome.Outcome.the-variants as Out
 use Rattle.tasks.specs.Limits.{maxTasks}
 use Rattle.tasks.specs.Check.{checked}
-use Rattle.tasks.proofs.Checked.{passes, checked-not-0}
-use Rattle.tasks.proofs.OutcomeLaws.{by-outcome, Not0}
+use Rattle.tasks.proofs.Checked.{passes, checked-numbered}
+use Rattle.tasks.proofs.OutcomeLaws.{by-outcome, Numbered}
 use Rattle.edzl.specs.Window.{noSlack, mayTurnUrgent, countUrgent, admitted}
 use Rattle.edzl.proofs.SumLaws.{count-bound}
 use Rattle.tasks.specs.TaskSet.{firstTasks, tasksOf}
@@ -34,8 +34,8 @@ module _ (t : Table) (m : ℕ) where
   unfolding judged judgedAfter refusedValues
   outcome-is = by-outcome (checked t m) (λ e. rw e) (λ number place e. rw e)
 
-  pub judged-not-0 : Not0 (judged t m .outcome)
-  judged-not-0 = rw outcome-is (checked-not-0 t m)
+  pub judged-numbered : Numbered (judged t m .outcome)
+  judged-numbered = rw outcome-is (checked-numbered t m)
 
   -- a refused verdict has the refusal's number and place
   refused-values : (number place : ℕ) → valuesOf (Refused number place) ≡ judged t m → judged t m .outcome ≡ Out.Refused number place

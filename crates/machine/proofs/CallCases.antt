@@ -1,7 +1,7 @@
 -- A call by what it came to: refused, with the machine as it was, by number 0 only if that is unsound, or carried out, with what was found true first.
 -- Others cite `by-call` and the records of what an accepted call found.
-use Prim.Native.Nat.{ℕ, _-_, _<_}
-use mathlib.Core.Path.{_≡_}
+use Prim.Native.Nat.{ℕ, _-_, _≤_, _<_}
+use mathlib.Core.Path.{_≡_, refl}
 use mathlib.Core.Bool.{Bool, true, false, cond, not}
 use mathlib.Core.List.{List}
 use lib.Dec.{leb, ltb}
@@ -10,20 +10,21 @@ use borrow.Author.Tests.{not-true, not-false, ltb-false}
 use Rattle.tasks.specs.declared.task.Task.{Task}
 use Rattle.tasks.specs.declared.outcome.Outcome.{Outcome}
 use Rattle.tasks.specs.declared.outcome.Outcome.the-variants.{Done, Refused}
-use Rattle.tasks.specs.Limits.{maxTasks}
+use Rattle.tasks.specs.Limits.{maxTasks, maxCores}
 use Rattle.tasks.specs.Refusals.{unsoundMachine, taskOutOfRange, noSuchTask, releasedTooSoon, jobNotOpen, tableFull, notAdmitted, slotCoresOutOfRange}
 use Rattle.tasks.specs.Task.{inRange}
 use Rattle.tasks.specs.Table.{withTask}
 use Rattle.laws.proofs.CaseSplits.{not-both, by-cond}
-use Rattle.tasks.proofs.OutcomeLaws.{Not0, number-some}
+use Rattle.tasks.proofs.OutcomeLaws.{Numbered}
 use Rattle.judge.specs.Judge.{judged}
-use Rattle.judge.proofs.Outcome.{judged-not-0}
+use Rattle.judge.proofs.Outcome.{judged-numbered}
 use Rattle.job.specs.Job.{closedJob, releasedJob}
 use Rattle.machine.specs.Machine.{taskAt, jobAt, withJob}
 use Rattle.machine.specs.Pick.{runners}
 use Rattle.machine.specs.Slot.{noReport, slotReport, afterSlot}
+use Rattle.machine.specs.Cores.{slotAssignment, withAssigned}
 use Rattle.machine.specs.Sound.{sound}
-use Rattle.machine.specs.Calls.{done, refuse, withJoined, joinAfter, release, finish, slot, join, step}
+use Rattle.machine.specs.Calls.{done, refuse, withJoined, joinAfter, release, finish, slotCoresInRange, slot, join, step}
 use Rattle.machine.specs.declared.machine.Machine.{Machine}
 use Rattle.machine.specs.declared.call.Call.{Call}
 use Rattle.machine.specs.declared.call.Call.the-variants.{Release, Finish, Slot, Join}
@@ -32,7 +33,8 @@ use Rattle.machine.specs.declared.answer.Report.{Report}
 use Rattle.machine.proofs.SoundLaws.{sound-free}
 use Rattle.machine.proofs.TaskNumbers.{KnownTask, known-task}
 use Rattle.machine.proofs.SlotStep.{LegalSlot}
-use Rattle.machine.proofs.RunnersLegal.{runners-legal, enough-cores}
+use Rattle.machine.proofs.RunnersLegal.{runners-legal, enough-cores, few-cores}
+use Rattle.machine.proofs.RunnersPlaced.{Placed, runners-placed}
 
 -- the answer of a refused call, of an accepted one, and of an accepted slot
 abbrev pub refusal : Machine → (number place : ℕ) → Answer
@@ -41,8 +43,8 @@ refusal m number place = record { machine = m; outcome = Refused number place; r
 abbrev pub accepted : Machine → Report → Answer
 accepted m report = record { machine = m; outcome = Done; report = report }
 
-abbrev pub slotAnswer : Machine → (ran : List Bool) → Answer
-slotAnswer m ran = accepted (afterSlot m ran) (slotReport m ran)
+abbrev pub slotAnswer : Machine → (ran : List Bool) → (cores : List ℕ) → Answer
+slotAnswer m ran cores = accepted (withAssigned (afterSlot m ran) cores) (slotReport m ran cores)
 
 -- the machine after an accepted release, and after an accepted finish
 unfoldable pub afterRelease : Machine → (number : ℕ) → Machine
@@ -51,7 +53,12 @@ afterRelease m number = withJob m (number - 1) (releasedJob (taskAt m (number - 
 unfoldable pub afterFinish : Machine → (number : ℕ) → Machine
 afterFinish m number = withJob m (number - 1) (closedJob (jobAt m (number - 1)))
 
--- what an accepted release, finish and join found
+-- a refusal's number: 0 only on an unsound machine, and two digits at most
+pub record Refusal (m : Machine) (number : ℕ) : Type 0 where
+  pub some : sound m ≡ true → 0 < number
+  pub small : number < 100
+
+-- what an accepted release, finish, slot and join found
 pub record ReleaseTaken (m : Machine) (number : ℕ) : Type 0 where
   pub task : KnownTask m number
   pub was-free : jobAt m (number - 1) .gap ≡ 0
@@ -61,6 +68,11 @@ pub record FinishTaken (m : Machine) (number : ℕ) : Type 0 where
   pub task : KnownTask m number
   pub was-open : jobAt m (number - 1) .«open» ≡ true
 
+pub record SlotTaken (m : Machine) (k : ℕ) (ran : List Bool) (cores : List ℕ) : Type 0 where
+  pub legal : LegalSlot m ran
+  pub placed : Placed k ran cores
+  pub few-cores : k ≤ maxCores
+
 pub record JoinTaken (m : Machine) (t : Task) : Type 0 where
   pub is-sound : sound m ≡ true
   pub admits : judged (withTask (m .table) t) (m .cores) .admits ≡ true
@@ -69,34 +81,48 @@ pub record JoinTaken (m : Machine) (t : Task) : Type 0 where
 module _
     (m : Machine)
     (P : Call → Answer → Type 0)
-    (on-refusal : (call : Call) (number place : ℕ) → (sound m ≡ true → 0 < number) → P call (refusal m number place))
+    (on-refusal : (call : Call) (number place : ℕ) → Refusal m number → P call (refusal m number place))
     (on-release : (number : ℕ) → ReleaseTaken m number → P (Release number) (accepted (afterRelease m number) noReport))
     (on-finish : (number : ℕ) → FinishTaken m number → P (Finish number) (accepted (afterFinish m number) noReport))
-    (on-slot : (k : ℕ) (ran : List Bool) → LegalSlot m ran → P (Slot k) (slotAnswer m ran))
+    (on-slot : (k : ℕ) (ran : List Bool) (cores : List ℕ) → SlotTaken m k ran cores → P (Slot k) (slotAnswer m ran cores))
     (on-join : (t : Task) → JoinTaken m t → P (Join t) (accepted (withJoined m t) noReport))
   where
+    -- by a number that is not 0
+    by-number : (number : ℕ) → (0 < number) × (number < 100) → Refusal m number
+    by-number number h = record { some = λ ok. h .0; small = h .1 }
+
     -- past the test that refuses an unsound machine by 0
     past-0 : (call : Call) {answer : Answer} → (sound m ≡ true → P call answer) → P call (cond (not (sound m)) (refusal m unsoundMachine 0) answer)
     past-0 call on =
-        by-cond (P call) (not (sound m)) (λ e. on-refusal call unsoundMachine 0 (λ ok. not-both _ ok (not-true _ e))) (λ e. on (not-false _ e))
+        by-cond (P call) (not (sound m)) (λ e. on-refusal call unsoundMachine 0 (record { some = λ ok. not-both _ ok (not-true _ e); small = omega arith }))
+        (λ e. on (not-false _ e))
 
     -- past a test that refuses the call by this number
     past :
-        (call : Call) (t : Bool) (number : ℕ) {answer : Answer} → 0 < number → (t ≡ false → P call answer)
+        (call : Call) (t : Bool) (number : ℕ) {answer : Answer} → (0 < number) × (number < 100) → (t ≡ false → P call answer)
         → P call (cond t (refusal m number 0) answer)
-    past call t number some on = by-cond (P call) t (λ e. on-refusal call number 0 (λ ok. some)) on
+    past call t number h on = by-cond (P call) t (λ e. on-refusal call number 0 (by-number number h)) on
 
     -- a join, after the verdict on the longer table
     by-verdict :
-        (t : Task) (verdict : Outcome) (admits : Bool) → Not0 verdict → (admits ≡ true → JoinTaken m t) → P (Join t) (joinAfter verdict admits m t)
+        (t : Task) (verdict : Outcome) (admits : Bool) → Numbered verdict → (admits ≡ true → JoinTaken m t) → P (Join t) (joinAfter verdict admits m t)
     unfolding joinAfter refuse done
-    by-verdict t Done admits told taken =
-        by-cond (P (Join t)) admits (λ e. on-join t (taken e)) (λ e. on-refusal _ notAdmitted _ (λ ok. omega arith))
-    by-verdict t (Refused number place) admits told taken = on-refusal _ _ _ (λ ok. number-some number place told)
+    by-verdict t Done admits numbered taken =
+        by-cond (P (Join t)) admits (λ e. on-join t (taken e)) (λ e. on-refusal _ notAdmitted _ (by-number notAdmitted (omega arith)))
+    by-verdict t (Refused number place) admits numbered taken = on-refusal _ _ _ (by-number number (numbered .number-is number place refl))
 
     -- a task without a gap is closed, as the machine is sound
     release-taken : (number : ℕ) → KnownTask m number → jobAt m (number - 1) .gap ≡ 0 → ReleaseTaken m number
     release-taken number task free = record { task = task; was-free = free; was-closed = sound-free m (task .is-sound) (number - 1) (task .inside) free }
+
+    -- a slot that is not refused
+    slot-taken : (k : ℕ) → sound m ≡ true → slotCoresInRange m k ≡ true → SlotTaken m k (runners m k) (slotAssignment m k)
+    slot-taken k ok in-range =
+        record {
+          legal = runners-legal m k ok (enough-cores m k in-range);
+          placed = runners-placed m k ok;
+          few-cores = few-cores m k in-range;
+        }
 
     pub by-call : (call : Call) → P call (step m call)
     unfolding step release finish slot join refuse done afterRelease afterFinish
@@ -113,9 +139,9 @@ module _
     by-call (Slot k) =
         past-0 _ λ ok.
         past _ _ slotCoresOutOfRange (omega arith) λ in-range.
-        on-slot k (runners m k) (runners-legal m k ok (enough-cores m k (not-false _ in-range)))
+        on-slot k (runners m k) (slotAssignment m k) (slot-taken k ok (not-false _ in-range))
     by-call (Join t) =
         past-0 _ λ ok.
         past _ (not (inRange t)) taskOutOfRange (omega arith) λ in-range.
         past _ (leb maxTasks (m .table .count)) tableFull (omega arith) λ room.
-        by-verdict t _ _ (judged-not-0 (withTask (m .table) t) (m .cores)) λ admits. record { is-sound = ok; admits = admits }
+        by-verdict t _ _ (judged-numbered (withTask (m .table) t) (m .cores)) λ admits. record { is-sound = ok; admits = admits }

@@ -15,6 +15,7 @@ use Rattle.edzl.proofs.Invariant.{SameJob}
 use Rattle.tasks.specs.TaskSet.{firstTasks, tasksOf}
 use Rattle.machine.specs.Machine.{jobAt, withJob}
 use Rattle.machine.specs.Slot.{noReport, slotReport, afterSlot}
+use Rattle.machine.specs.Cores.{withAssigned}
 use Rattle.tasks.specs.Outcome.{isDone}
 use Rattle.machine.specs.Calls.{withJoined}
 use Rattle.machine.specs.Play.{Entry, play}
@@ -89,28 +90,28 @@ module _ (m : Machine) (i l b : ℕ) (going : Going m i l b) where
         after-other _ _ refl (kept-join m (going .kept) t taken) (omega (arith, going .inside))
         (join-step m t .same-jobs i (going .inside))
 
-  module _ (k : ℕ) (ran : List Bool) (legal : LegalSlot m ran) where
+  module _ (k : ℕ) (ran : List Bool) (cores : List ℕ) (legal : LegalSlot m ran) where
     -- what the answer says of task i
-    says-ran : (t : Bool) → getD ran i false ≡ t → saysRan (suc i) (entryOf (Slot k) (slotAnswer m ran)) ≡ t
+    says-ran : (t : Bool) → getD ran i false ≡ t → saysRan (suc i) (entryOf (Slot k) (slotAnswer m ran cores)) ≡ t
     unfolding saysRan acceptedSlot isDone isSlot slotReport
     says-ran t e =
         let same : suc i - 1 ≡ i = omega arith in
         rw (same, e)
 
-    says-finished : b - bit (getD ran i false) ≡ 0 → saysFinished (suc i) (entryOf (Slot k) (slotAnswer m ran)) ≡ true
+    says-finished : b - bit (getD ran i false) ≡ 0 → saysFinished (suc i) (entryOf (Slot k) (slotAnswer m ran cores)) ≡ true
     unfolding saysFinished acceptedSlot isDone isSlot
     says-finished e =
         let same : suc i - 1 ≡ i = omega arith in
-        rw same (finished-is m ran i (legal .is-sound) (going .inside) (going .is-open) (omega (arith, going .budget-is)))
+        rw same (finished-is m ran i (legal .is-sound) cores (going .inside) (going .is-open) (omega (arith, going .budget-is)))
 
     module _ (calls : List Call) (rest : AllClose i calls) where
-      after-idle : getD ran i false ≡ false → ClosesAfter i l b calls (Slot k) (slotAnswer m ran)
+      after-idle : getD ran i false ≡ false → ClosesAfter i l b calls (Slot k) (slotAnswer m ran cores)
       unfolding AllClose ClosesIn ClosesAfter slotCount acceptedSlot isDone isSlot
       after-idle idle bound =
-          let owes = going-on going ran legal b (omega (arith, bit-false (getD ran i false) idle)) (budget-some going) in
-          closes-idle (suc i) l b _ _ (left-some going) refl (says-ran false idle) (rest (afterSlot m ran) (l - 1) b owes (omega arith))
+          let owes = going-on going ran cores legal b (omega (arith, bit-false (getD ran i false) idle)) (budget-some going) in
+          closes-idle (suc i) l b _ _ (left-some going) refl (says-ran false idle) (rest (withAssigned (afterSlot m ran) cores) (l - 1) b owes (omega arith))
 
-      after-run : getD ran i false ≡ true → ClosesAfter i l b calls (Slot k) (slotAnswer m ran)
+      after-run : getD ran i false ≡ true → ClosesAfter i l b calls (Slot k) (slotAnswer m ran cores)
       unfolding AllClose ClosesIn ClosesAfter slotCount acceptedSlot isDone isSlot
       after-run runs bound =
           let one = bit-true (getD ran i false) runs in
@@ -118,9 +119,9 @@ module _ (m : Machine) (i l b : ℕ) (going : Going m i l b) where
           (λ few. closes-last (suc i) l b _ _ (left-some going) refl (says-ran true runs) few (says-finished (omega arith)))
           (λ more.
           closes-ran (suc i) l b _ _ (left-some going) refl (says-ran true runs) more
-          (rest (afterSlot m ran) (l - 1) (b - 1) (going-on going ran legal (b - 1) (omega arith) (omega arith)) (omega arith)))
+          (rest (withAssigned (afterSlot m ran) cores) (l - 1) (b - 1) (going-on going ran cores legal (b - 1) (omega arith) (omega arith)) (omega arith)))
 
-      after-slot : ClosesAfter i l b calls (Slot k) (slotAnswer m ran)
+      after-slot : ClosesAfter i l b calls (Slot k) (slotAnswer m ran cores)
       after-slot = by-test (getD ran i false) after-run after-idle
 
 all-close : (i : ℕ) (calls : List Call) → AllClose i calls
@@ -132,7 +133,7 @@ all-close i (call ∷ calls) m l b going =
     (λ call number place told. after-refusal m i l b going calls rest call number place)
     (after-release m i l b going calls rest)
     (after-finish m i l b going calls rest)
-    (λ k ran legal. after-slot m i l b going k ran legal calls rest)
+    (λ k ran cores taken. after-slot m i l b going k ran cores (taken .legal) calls rest)
     (after-join m i l b going calls rest)
     call
 

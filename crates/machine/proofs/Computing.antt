@@ -9,9 +9,11 @@ use Rattle.tasks.specs.Outcome.{isDone}
 use Rattle.tasks.specs.TaskSet.{firstTasks, tasksOf}
 use Rattle.judge.proofs.Computing.{computingVerdicts}
 use Rattle.job.proofs.Computing.{computingJobs}
+use Rattle.cores.proofs.Computing.{computingCores}
 use Rattle.machine.specs.Machine.{zeroMachine, taskAt, jobAt, withJob, inTable}
 use Rattle.machine.specs.Pick.{openCount, waiting, precedes, candidates, withPicked, pick, runnerCount, runners}
 use Rattle.machine.specs.Slot.{passed, ranCount, noReport, slotReport, afterSlot}
+use Rattle.machine.specs.Cores.{runnerOrder, slotAssignment, withAssigned}
 use Rattle.laws.specs.Lists.{replaced}
 use Rattle.machine.specs.Sound.{jobsSound, sound}
 use Rattle.machine.specs.Calls.{done, refuse, startAfter, start, release, finish, slotCoresInRange, slot, withJoined, joinAfter, join, step}
@@ -24,10 +26,11 @@ unfoldable pub computing : Bool
 unfolding
     sumTo bit interference spare others noSlack windowSum mayTurnUrgent countUrgent admitted
     inRange zeroTask emptyTable withTask firstOutOfRange coresInRange checked isDone firstTasks tasksOf
-    computingVerdicts computingJobs
+    computingVerdicts computingJobs computingCores
     zeroMachine taskAt jobAt withJob inTable
     openCount waiting precedes candidates withPicked pick runnerCount runners
     passed ranCount replaced noReport slotReport afterSlot
+    runnerOrder slotAssignment withAssigned
     jobsSound sound
     done refuse startAfter start release finish slotCoresInRange slot withJoined joinAfter join step play
     isSlot acceptedSlot

@@ -1,4 +1,4 @@
--- The examples all hold (`examples-hold`, `claims-hold`). Demand 3's claim is not empty: it speaks of a release whose job runs and finishes
+-- The examples all hold (`examples-hold`, `core-examples-hold`, `claims-hold`). Demand 3's claim is not empty: it speaks of a release whose job runs and finishes
 -- (`not-empty`), and it is false of a log with a late job (`late-refuted`).
 use Prim.Native.Nat.{ℕ, _-_, _≤_}
 use mathlib.Core.Path.{_≡_, refl}
@@ -14,18 +14,25 @@ use Rattle.judge.specs.Judge.{judged}
 use Rattle.tasks.specs.Outcome.{isDone}
 use Rattle.machine.specs.Slot.{noReport}
 use Rattle.machine.specs.Calls.{start}
-use Rattle.machine.specs.Play.{Entry, play}
+use Rattle.machine.specs.Play.{Entry, play, machineAfter}
 use Rattle.machine.specs.InTime.{isFinishOf, acceptedFinish, saysRan, saysFinished, slotCount, upToSlot, ranWhole, anyFinish, tableAfter, joinedBy, closedBySlot, InTime, Promise}
 use Rattle.machine.specs.Cases.{tableOf, releases, session, example}
-use Rattle.machine.specs.Examples.{answers, refusalBefore, refusals, runnerCounts, sameNumbers, runIs, ignoredIs, many, pressed, pressedCalls, ignoredSlot, atPlace0, emptyRefusals, withoutTasks, madeByHand, allKinds, whole, overtaken, ignored, examples, slotOf, idle, ran, ranLast, accepted, refused, closedIn, claims, allTrue}
+use Rattle.machine.specs.Examples.{answers, refusalBefore, refusals, runnerCounts, runIs, ignoredIs, many, manyIs, pressed, pressedCalls, ignoredSlot, atPlace0, emptyRefusals, withoutTasks, madeByHand, allKinds, whole, overtaken, ignored, examples, slotOf, idle, ran, ranLast, accepted, refused, closedIn, claims}
+use Rattle.cores.specs.Examples.{sameNumbers, allTrue}
+use Rattle.machine.specs.Machine.{coreAt}
+use Rattle.machine.specs.CoreExamples.{coreLines, sameLists, coresAre, three, everySlot, recording, recordAfter, elseNoCores, coreExamples}
 use Rattle.machine.specs.declared.call.Call.{Call}
 use Rattle.machine.specs.declared.call.Call.the-variants.{Release, Slot}
 use Rattle.machine.proofs.Computing.{computing}
 use Rattle.machine.proofs.InTimeHolds.{promise}
 
 pub examples-hold : allTrue examples ≡ true
-unfolding computing answers refusalBefore refusals runnerCounts sameNumbers runIs ignoredIs many pressed pressedCalls ignoredSlot atPlace0 emptyRefusals withoutTasks madeByHand allKinds whole overtaken ignored examples allTrue
+unfolding computing answers refusalBefore refusals runnerCounts sameNumbers runIs ignoredIs many manyIs pressed pressedCalls ignoredSlot atPlace0 emptyRefusals withoutTasks madeByHand allKinds whole overtaken ignored examples allTrue
 examples-hold = refl
+
+pub core-examples-hold : allTrue coreExamples ≡ true
+unfolding computing coreAt machineAfter answers refusalBefore refusals sameNumbers allTrue coreLines sameLists coresAre three everySlot recording recordAfter elseNoCores coreExamples
+core-examples-hold = refl
 
 pub claims-hold : allTrue claims ≡ true
 unfolding computing answers pressed pressedCalls saysRan saysFinished slotCount upToSlot ranWhole acceptedFinish isFinishOf anyFinish closedBySlot tableAfter joinedBy slotOf idle ran ranLast accepted refused closedIn claims allTrue

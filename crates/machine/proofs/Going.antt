@@ -9,7 +9,9 @@ use native.Mathlib.Omega.{arith}
 use Rattle.edzl.specs.Sums.{bit}
 use Rattle.edzl.proofs.Invariant.{SameJob}
 use Rattle.tasks.specs.TaskSet.{firstTasks, tasksOf}
+use Rattle.machine.specs.Machine.{jobAt}
 use Rattle.machine.specs.Slot.{afterSlot}
+use Rattle.machine.specs.Cores.{withAssigned}
 use Rattle.machine.specs.declared.machine.Machine.{Machine}
 use Rattle.machine.proofs.State.{jobsOf}
 use Rattle.machine.proofs.SlotStep.{LegalSlot, slot-step}
@@ -43,15 +45,15 @@ module _ {m : Machine} {i l b : ℕ} (going : Going m i l b) where
       }
 
   pub going-on :
-      (ran : List Bool) → LegalSlot m ran → (b' : ℕ) → b - bit (getD ran i false) ≡ b' → 1 ≤ b'
-      → Going (afterSlot m ran) i (l - 1) b'
-  unfolding afterSlot tasksOf firstTasks
-  going-on ran legal b' owes some =
+      (ran : List Bool) (cores : List ℕ) → LegalSlot m ran → (b' : ℕ) → b - bit (getD ran i false) ≡ b' → 1 ≤ b'
+      → Going (withAssigned (afterSlot m ran) cores) i (l - 1) b'
+  unfolding afterSlot withAssigned tasksOf firstTasks jobsOf jobAt
+  going-on ran cores legal b' owes some =
       let in-time = slot-on-time m (going .kept) ran legal i (going .inside) (going .is-open) in
       let open-after = slot-step m ran legal .effect i (going .inside) .stays-open (going .is-open) in
       let still = open-after (omega (arith, going .budget-is)) (omega (arith, going .budget-is)) in
       record {
-        kept = kept-slot m (going .kept) ran legal;
+        kept = kept-slot m (going .kept) ran cores legal;
         inside = going .inside;
         is-open = still .still-open;
         left-is = rw (going .left-is) at (still .now-left);

@@ -9,6 +9,7 @@ use Rattle.tasks.specs.declared.table.Table.{Table}
 use Rattle.laws.proofs.CaseSplits.{by-test, clash}
 use Rattle.machine.specs.Machine.{taskAt, withJob}
 use Rattle.machine.specs.Slot.{slotReport, afterSlot}
+use Rattle.machine.specs.Cores.{withAssigned}
 use Rattle.tasks.specs.Outcome.{isDone}
 use Rattle.job.specs.Job.{releasedJob}
 use Rattle.machine.specs.Calls.{withJoined, step}
@@ -28,13 +29,13 @@ use Rattle.machine.proofs.Closing.{entryOf, closing}
 
 -- an accepted join's task is added to the table, and nothing else changes it
 table-after : (m : Machine) (call : Call) → step m call .machine .table ≡ cond (isDone (step m call .outcome)) (joinedBy call (m .table)) (m .table)
-unfolding isDone joinedBy afterRelease afterFinish withJob withJoined afterSlot
+unfolding isDone joinedBy afterRelease afterFinish withJob withJoined afterSlot withAssigned
 table-after m =
     by-call m (λ call answer. answer .machine .table ≡ cond (isDone (answer .outcome)) (joinedBy call (m .table)) (m .table))
     (λ call number place told. refl)
     (λ number taken. refl)
     (λ number taken. refl)
-    (λ k ran legal. refl)
+    (λ k ran cores taken. refl)
     (λ t taken. refl)
 
 module _ (m : Machine) (kept : Kept m) where
@@ -42,10 +43,10 @@ module _ (m : Machine) (kept : Kept m) where
   never-late ran legal i late =
       late .owes (omega (arith, late .out, slot-on-time m kept ran legal i (late .inside) (late .was-open)))
 
-  slot-in-time : (ran : List Bool) → LegalSlot m ran → (i : ℕ) → getD (slotReport m ran .late) i false ≡ false
-  slot-in-time ran legal i =
-      by-test (getD (slotReport m ran .late) i false)
-      (λ late. absurd (never-late ran legal i (late-is m ran i (legal .is-sound) late)))
+  slot-in-time : (ran : List Bool) (cores : List ℕ) → LegalSlot m ran → (i : ℕ) → getD (slotReport m ran cores .late) i false ≡ false
+  slot-in-time ran cores legal i =
+      by-test (getD (slotReport m ran cores .late) i false)
+      (λ late. absurd (never-late ran legal i (late-is m ran i (legal .is-sound) cores late)))
       (λ fine. fine)
 
   -- the job of a release, right after it
@@ -89,7 +90,7 @@ module _ (m : Machine) (kept : Kept m) where
             rw (← same) (release-closed calls n taken);
       })
       (λ n taken. quiet-in-time _ _ _ refl (λ number e d. clash cc))
-      (λ k ran legal. record { not-late = slot-in-time ran legal; closed = λ number e d. clash cc })
+      (λ k ran cores taken. record { not-late = slot-in-time ran cores (taken .legal); closed = λ number e d. clash cc })
       (λ t taken. quiet-in-time _ _ _ refl (λ number e d. clash cc))
 
 each-entry : (calls : List Call) (m : Machine) → Kept m → EachInTime (m .table) (play m calls)

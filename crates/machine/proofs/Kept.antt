@@ -19,6 +19,7 @@ use Rattle.job.specs.declared.job.Job.{Job}
 use Rattle.job.specs.Job.{freshJob}
 use Rattle.machine.specs.Machine.{jobAt, withJob}
 use Rattle.machine.specs.Slot.{afterSlot}
+use Rattle.machine.specs.Cores.{withAssigned}
 use Rattle.machine.specs.Calls.{done, startAfter, start, withJoined, step}
 use Rattle.machine.specs.declared.machine.Machine.{Machine}
 use Rattle.machine.specs.declared.call.Call.{Call}
@@ -39,7 +40,7 @@ pub record Kept (m : Machine) : Type 0 where
 
 -- the machine of a start that is not refused
 unfoldable pub freshMachine : Table → (cores : ℕ) → Machine
-freshMachine t cores = record { table = t; cores = cores; jobs = replicate maxTasks freshJob }
+freshMachine t cores = record { table = t; cores = cores; jobs = replicate maxTasks freshJob; assigned = replicate maxTasks 0 }
 
 module _ (t : Table) (cores : ℕ) (yes-admitted : judged t cores .admits ≡ true) where
   means : Admits t cores
@@ -98,9 +99,9 @@ module _ (m : Machine) (kept : Kept m) where
         all-jobs = rw length-set (kept .all-jobs);
       }
 
-  pub kept-slot : (ran : List Bool) → LegalSlot m ran → Kept (afterSlot m ran)
-  unfolding afterSlot
-  kept-slot ran legal =
+  pub kept-slot : (ran : List Bool) (cores : List ℕ) → LegalSlot m ran → Kept (withAssigned (afterSlot m ran) cores)
+  unfolding afterSlot withAssigned jobsOf jobAt
+  kept-slot ran cores legal =
       record {
         safe = safe-slot _ (sound-fits m (legal .is-sound)) _ _ _ (kept .safe) (kept .admits) _ (slot-step m ran legal);
         admits = kept .admits;
@@ -121,5 +122,5 @@ module _ (m : Machine) (kept : Kept m) where
       (λ call number place told. kept)
       kept-release
       kept-finish
-      (λ k. kept-slot)
+      (λ k ran cores taken. kept-slot ran cores (taken .legal))
       kept-join

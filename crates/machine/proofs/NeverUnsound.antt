@@ -20,10 +20,10 @@ use Rattle.machine.proofs.SoundKept.{call-keeps, start-sound}
 pub not-unsound : (m : Machine) → sound m ≡ true → (call : Call) → Not0 (step m call .outcome)
 not-unsound m ok =
     by-call m (λ call answer. Not0 (answer .outcome))
-    (λ call number place some. refused-not-0 number place (some ok))
+    (λ call number place told. refused-not-0 number place (told .some ok))
     (λ number taken. done-not-0)
     (λ number taken. done-not-0)
-    (λ k ran legal. done-not-0)
+    (λ k ran cores taken. done-not-0)
     (λ t taken. done-not-0)
 
 each-not-0 :

@@ -1,18 +1,19 @@
 -- The runners that the machine picks for k cores are a legal choice in the theory's sense, whichever k from its own number of cores on:
--- `runners-legal`. A slot that is not refused by 14 has so many: `enough-cores`. The runners are as many as `runnerCount` says: `runners-number`.
+-- `runners-legal`. A slot that is not refused by 14 has so many, and at most 16: `enough-cores` and `few-cores`. The runners are as many as `runnerCount` says: `runners-number`.
 use Prim.Native.Nat.{ℕ, _≤_, _<_}
 use mathlib.Core.Path.{_≡_}
 use mathlib.Core.Bool.{true, false}
 use mathlib.Core.Logic.{inl, inr}
 use native.Mathlib.Omega.{arith}
+use lib.Dec.{leb}
 use lib.ListN.{getD}
 use borrow.Author.Tests.{leb-true, le-leb, lt-leb}
 use Rattle.laws.proofs.CaseSplits.{by-order, by-test, not-both}
-use Rattle.laws.proofs.Booleans.{and-left}
+use Rattle.laws.proofs.Booleans.{and-left, and-right}
 use Rattle.edzl.specs.Sums.{bit}
 use Rattle.edzl.proofs.SumLaws.{sum-strict, bit-true, bit-false, bit-monotone}
 use Rattle.edzl.proofs.Choice.{Beats, more-urgent, both-urgent, neither-urgent, LegalChoice}
-use Rattle.tasks.specs.Limits.{maxTasks}
+use Rattle.tasks.specs.Limits.{maxTasks, maxCores}
 use Rattle.job.specs.Job.{isUrgent}
 use Rattle.job.proofs.Order.{by-urgency, by-left, holds}
 use Rattle.machine.specs.Machine.{jobAt}
@@ -82,6 +83,10 @@ module _ (m : Machine) (k : ℕ) (fits : m .table .count ≤ maxTasks) where
 pub enough-cores : (m : Machine) (k : ℕ) → slotCoresInRange m k ≡ true → m .cores ≤ k
 unfolding slotCoresInRange
 enough-cores m k in-range = leb-true _ _ (and-left _ _ in-range)
+
+pub few-cores : (m : Machine) (k : ℕ) → slotCoresInRange m k ≡ true → k ≤ maxCores
+unfolding slotCoresInRange
+few-cores m k in-range = leb-true _ _ (and-right (leb (m .cores) k) _ in-range)
 
 pub runners-legal : (m : Machine) (k : ℕ) → sound m ≡ true → m .cores ≤ k → LegalSlot m (runners m k)
 runners-legal m k is-sound enough =

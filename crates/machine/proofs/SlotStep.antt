@@ -62,9 +62,9 @@ module _ (m : Machine) (ran : List Bool) (i : ℕ) (ok : sound m ≡ true) where
       (omega (arith, length-replicate maxTasks false, sound-passes m ok .count-fits))
 
   -- No task past the count is reported late.
-  late-past : m .table .count ≤ i → getD (slotReport m ran .late) i false ≡ false
+  late-past : (cores : List ℕ) → m .table .count ≤ i → getD (slotReport m ran cores .late) i false ≡ false
   unfolding slotReport
-  late-past h =
+  late-past cores h =
       replaced-past (λ i. isLate (passed m ran i)) (replicate maxTasks false) false (m .table .count) i h
       ∙ replicate-entry maxTasks i false
 
@@ -84,18 +84,18 @@ module _ (m : Machine) (ran : List Bool) (i : ℕ) (ok : sound m ≡ true) where
         out = sym (passed-left was-open) ∙ eqb-true _ _ (and-right first _ e);
       }
 
-  pub late-is : getD (slotReport m ran .late) i false ≡ true → Late m ran i
+  pub late-is : (cores : List ℕ) → getD (slotReport m ran cores .late) i false ≡ true → Late m ran i
   unfolding slotReport
-  late-is e =
+  late-is cores e =
       by-order (m .table .count) i
-      (λ past. not-both (getD (slotReport m ran .late) i false) e (late-past past))
+      (λ past. not-both (getD (slotReport m ran cores .late) i false) e (late-past cores past))
       (λ h. late-inside h (sym (reported (λ i. isLate (passed m ran i)) h) ∙ e))
 
   pub finished-is :
-      i < m .table .count → jobsOf m .isOpen i ≡ true → jobsOf m .budget i - bit (getD ran i false) ≡ 0
-      → getD (slotReport m ran .finished) i false ≡ true
+      (cores : List ℕ) → i < m .table .count → jobsOf m .isOpen i ≡ true → jobsOf m .budget i - bit (getD ran i false) ≡ 0
+      → getD (slotReport m ran cores .finished) i false ≡ true
   unfolding slotReport jobsOf isFinished passed aged charged
-  finished-is h o e = reported (λ i. isFinished (passed m ran i)) h ∙ rw (o, eq-eqb _ _ e)
+  finished-is cores h o e = reported (λ i. isFinished (passed m ran i)) h ∙ rw (o, eq-eqb _ _ e)
 
   module _ (h : i < m .table .count) where
     -- What step 4 closes has no job after the slot.

@@ -13,57 +13,71 @@ use Rattle.job.specs.Job.{freshJob}
 use Rattle.machine.specs.Machine.{jobAt}
 use Rattle.job.specs.Slot.{charged, aged, isFinished, isLate, settled}
 use Rattle.machine.specs.Slot.{passed, ranCount, slotReport, afterSlot}
+use Rattle.machine.specs.Cores.{withAssigned}
 use Rattle.laws.specs.Lists.{replaced}
 use Rattle.laws.proofs.Replaced.{replaced-past}
 use Rattle.job.specs.declared.job.Job.{Job}
 use Rattle.machine.specs.declared.machine.Machine.{Machine}
 use Rattle.machine.specs.declared.answer.Answer.{Answer}
 
--- the machine m and two lists of the report after the first i tasks of m₀ have passed the slot in which `ran` says who ran
-pub record Turned (m₀ : Machine) (ran : List Bool) (m : Machine) (finished late : List Bool) (i : ℕ) : Type 0 where
+-- the machine m and two lists of the report after the first i tasks of m₀ have passed the slot in which `ran` says who ran and `cores` where
+pub record Turned (m₀ : Machine) (ran : List Bool) (cores : List ℕ) (m : Machine) (finished late : List Bool) (i : ℕ) : Type 0 where
   pub same-table : m .table ≡ m₀ .table
   pub same-cores : m .cores ≡ m₀ .cores
   pub jobs-are : m .jobs ≡ replaced i (λ k. settled (passed m₀ ran k)) (m₀ .jobs)
+  pub assigned-are : m .assigned ≡ replaced i (λ k. getD cores k 0) (m₀ .assigned)
   pub finished-are : finished ≡ replaced i (λ k. isFinished (passed m₀ ran k)) (replicate maxTasks false)
   pub late-are : late ≡ replaced i (λ k. isLate (passed m₀ ran k)) (replicate maxTasks false)
 
-pub turned-none : (m : Machine) (ran : List Bool) → Turned m ran m (replicate maxTasks false) (replicate maxTasks false) 0
+pub turned-none : (m : Machine) (ran : List Bool) (cores : List ℕ) → Turned m ran cores m (replicate maxTasks false) (replicate maxTasks false) 0
 unfolding replaced
-turned-none m ran = record { same-table = refl; same-cores = refl; jobs-are = refl; finished-are = refl; late-are = refl }
+turned-none m ran cores =
+    record { same-table = refl; same-cores = refl; jobs-are = refl; assigned-are = refl; finished-are = refl; late-are = refl }
 
-module _ (m₀ : Machine) (ran : List Bool) (m : Machine) (finished late : List Bool) (i : ℕ) (t : Turned m₀ ran m finished late i) where
-  -- the job at i has not passed yet
-  pub job-before : getD (m .jobs) i freshJob ≡ jobAt m₀ i
-  unfolding jobAt
-  job-before = rw (t .jobs-are) (replaced-past (λ k. settled (passed m₀ ran k)) (m₀ .jobs) freshJob i i (le-refl i))
+module _
+    (m₀ : Machine)
+    (ran : List Bool)
+    (cores : List ℕ)
+    (m : Machine)
+    (finished late : List Bool)
+    (i : ℕ)
+    (t : Turned m₀ ran cores m finished late i)
+  where
+    -- the job at i has not passed yet
+    pub job-before : getD (m .jobs) i freshJob ≡ jobAt m₀ i
+    unfolding jobAt
+    job-before = rw (t .jobs-are) (replaced-past (λ k. settled (passed m₀ ran k)) (m₀ .jobs) freshJob i i (le-refl i))
 
-  -- one task more
-  pub turned-more :
-      (j : Job) → j ≡ aged (charged (getD ran i false) (getD (m .jobs) i freshJob))
-      → Turned m₀ ran (record { table = m .table; cores = m .cores; jobs = set (m .jobs) i (settled j) })
-      (set finished i (isFinished j)) (set late i (isLate j)) (i + 1)
-  unfolding replaced passed
-  turned-more j e =
-      let p : j ≡ passed m₀ ran i = e ∙ ap (λ (x : Job). aged (charged (getD ran i false) x)) job-before in
-      record {
-        same-table = t .same-table;
-        same-cores = t .same-cores;
-        jobs-are = rw (add-one i, p, t .jobs-are);
-        finished-are = rw (add-one i, p, t .finished-are);
-        late-are = rw (add-one i, p, t .late-are);
-      }
+    -- one task more
+    pub turned-more :
+        (j : Job) → j ≡ aged (charged (getD ran i false) (getD (m .jobs) i freshJob))
+        → Turned m₀ ran cores
+        (record { table = m .table; cores = m .cores; jobs = set (m .jobs) i (settled j); assigned = set (m .assigned) i (getD cores i 0) })
+        (set finished i (isFinished j)) (set late i (isLate j)) (i + 1)
+    unfolding replaced passed
+    turned-more j e =
+        let p : j ≡ passed m₀ ran i = e ∙ ap (λ (x : Job). aged (charged (getD ran i false) x)) job-before in
+        record {
+          same-table = t .same-table;
+          same-cores = t .same-cores;
+          jobs-are = rw (add-one i, p, t .jobs-are);
+          assigned-are = rw (add-one i, t .assigned-are);
+          finished-are = rw (add-one i, p, t .finished-are);
+          late-are = rw (add-one i, p, t .late-are);
+        }
 
 -- after every task
 pub turned-all :
-    (m₀ : Machine) (ran : List Bool) (m : Machine) (finished late : List Bool) (n : ℕ) → Turned m₀ ran m finished late (m₀ .table .count)
+    (m₀ : Machine) (ran : List Bool) (cores : List ℕ) (m : Machine) (finished late : List Bool) (n : ℕ)
+    → Turned m₀ ran cores m finished late (m₀ .table .count)
     → n ≡ ranCount m₀ ran
     → _≡_ {A = Answer}
-    (record { machine = m; outcome = Done; report = record { ran = ran; finished = finished; late = late; runners = n } })
-    (record { machine = afterSlot m₀ ran; outcome = Done; report = slotReport m₀ ran })
-unfolding afterSlot slotReport
-turned-all m₀ ran m finished late n t q =
+    (record { machine = m; outcome = Done; report = record { ran = ran; finished = finished; late = late; runners = n; assigned = cores } })
+    (record { machine = withAssigned (afterSlot m₀ ran) cores; outcome = Done; report = slotReport m₀ ran cores })
+unfolding afterSlot withAssigned slotReport
+turned-all m₀ ran cores m finished late n t q =
     λ i. record {
-      machine = record { table = t .same-table i; cores = t .same-cores i; jobs = t .jobs-are i };
+      machine = record { table = t .same-table i; cores = t .same-cores i; jobs = t .jobs-are i; assigned = t .assigned-are i };
       outcome = Done;
-      report = record { ran = ran; finished = t .finished-are i; late = t .late-are i; runners = q i };
+      report = record { ran = ran; finished = t .finished-are i; late = t .late-are i; runners = q i; assigned = cores };
     }

@@ -26,16 +26,18 @@ use Rattle.job.specs.Sound.{jobSound}
 use Rattle.job.proofs.SoundLaws.{gap-within, fresh-sound, released-sound, ended-sound, slot-sound}
 use Rattle.machine.specs.Machine.{taskAt, jobAt, withJob}
 use Rattle.machine.specs.Slot.{passed, afterSlot}
+use Rattle.machine.specs.Cores.{withAssigned}
 use Rattle.machine.specs.Sound.{sound}
 use Rattle.machine.specs.Calls.{done, refuse, startAfter, start, slotCoresInRange, slot, withJoined, step}
 use Rattle.machine.specs.Play.{machineAfter}
 use Rattle.machine.specs.declared.machine.Machine.{Machine}
 use Rattle.machine.specs.declared.call.Call.{Call}
 use Rattle.machine.proofs.State.{job-set, job-unset, job-other}
-use Rattle.machine.proofs.SoundLaws.{make-sound, sound-checks, sound-passes, sound-job}
+use Rattle.machine.proofs.SoundLaws.{make-sound, sound-checks, sound-passes, sound-job, sound-cores}
+use Rattle.machine.proofs.CoresKept.{fresh-cores, slot-cores, join-cores}
 use Rattle.machine.proofs.SlotStep.{after-slot-job}
 use Rattle.machine.proofs.JobSteps.{old-job, new-job}
-use Rattle.machine.proofs.CallCases.{ReleaseTaken, FinishTaken, JoinTaken, afterRelease, afterFinish, by-call}
+use Rattle.machine.proofs.CallCases.{ReleaseTaken, FinishTaken, SlotTaken, JoinTaken, afterRelease, afterFinish, by-call}
 
 -- the machine is sound, and has so many cores
 pub record SoundOn (cores : ℕ) (m : Machine) : Type 0 where
@@ -59,7 +61,8 @@ module _ (m : Machine) (ok : sound m ≡ true) where
             (λ k h.
             by-equal k i
             (λ e. rw e (set-sound i j fine))
-            (λ ne. rw (job-other m i j k ne) (sound-job m ok k h)));
+            (λ ne. rw (job-other m i j k ne) (sound-job m ok k h)))
+            (sound-cores m ok);
         cores-are = refl;
       }
 
@@ -79,9 +82,15 @@ module _ (m : Machine) (ok : sound m ≡ true) where
   unfolding passed
   slot-job ran i h = rw (after-slot-job m ran i h) (slot-sound (taskAt m i) (jobAt m i) (getD ran i false) (sound-job m ok i h))
 
-  slot-keeps : (ran : List Bool) → SoundOn (m .cores) (afterSlot m ran)
-  unfolding afterSlot taskAt
-  slot-keeps ran = record { is-sound = make-sound (afterSlot m ran) (sound-checks m ok) (slot-job ran); cores-are = refl }
+  slot-keeps : (k : ℕ) (ran : List Bool) (cores : List ℕ) → SlotTaken m k ran cores → SoundOn (m .cores) (withAssigned (afterSlot m ran) cores)
+  unfolding afterSlot withAssigned taskAt jobAt
+  slot-keeps k ran cores taken =
+      record {
+        is-sound =
+            make-sound (withAssigned (afterSlot m ran) cores) (sound-checks m ok) (slot-job ran)
+            (slot-cores (m .table .count) k ran cores (m .assigned) (taken .placed) (taken .few-cores));
+        cores-are = refl;
+      }
 
   -- the tasks that a longer table had, with their jobs, and the new one
   module _ (t : Task) where
@@ -99,7 +108,9 @@ module _ (m : Machine) (ok : sound m ≡ true) where
     unfolding withJoined withTask
     join-keeps taken =
         record {
-          is-sound = make-sound (withJoined m t) (admits-means (withTask (m .table) t) (m .cores) (taken .admits) .checks) each-job;
+          is-sound =
+              make-sound (withJoined m t) (admits-means (withTask (m .table) t) (m .cores) (taken .admits) .checks) each-job
+              (join-cores (m .table .count) (m .assigned) (sound-cores m ok));
           cores-are = refl;
         }
 
@@ -109,11 +120,11 @@ module _ (m : Machine) (ok : sound m ≡ true) where
       (λ call number place told. record { is-sound = ok; cores-are = refl })
       release-keeps
       finish-keeps
-      (λ k ran legal. slot-keeps ran)
+      slot-keeps
       join-keeps
 
 -- a start is refused where its table or its cores are
-start-outcome : (t : Table) (cores : ℕ) → start t cores .outcome ≡ checked t cores
+pub start-outcome : (t : Table) (cores : ℕ) → start t cores .outcome ≡ checked t cores
 unfolding start startAfter done
 start-outcome t cores = by-outcome (checked t cores) (λ e. rw e) (λ number place e. rw e)
 
@@ -127,7 +138,8 @@ module _ (t : Table) (cores : ℕ) (starts : start t cores .outcome ≡ Done) wh
   start-sound =
       rw checks
       (record {
-        is-sound = make-sound _ checks (λ i h. rw (replicate-entry maxTasks i freshJob) (fresh-sound _));
+        is-sound =
+            make-sound _ checks (λ i h. rw (replicate-entry maxTasks i freshJob) (fresh-sound _)) (fresh-cores (t .count) maxTasks);
         cores-are = refl;
       })
 

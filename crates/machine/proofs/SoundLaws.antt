@@ -1,9 +1,11 @@
--- What a sound machine is. Others cite: `one-unsound`, and `make-sound`, from its table, cores and jobs; `sound-checks` and `sound-passes`, that its
--- table and cores pass `checked`; `sound-fits`, that its tasks are well formed; `sound-job`, that each job is sound; `sound-closed`, that a closed
--- task has no job; `sound-free`, that a task without a gap is closed; and `sound-small`, that the left and budget of an open one are below 2^20.
+-- What a sound machine is. Others cite: `one-unsound`, and `make-sound`, from its table, cores, jobs and recorded cores; `sound-checks` and `sound-passes`,
+-- that its table and cores pass `checked`; `sound-fits`, that its tasks are well formed; `sound-job`, that each job is sound; `sound-closed`, that a
+-- closed task has no job; `sound-free`, that a task without a gap is closed; `sound-small`, that the left and budget of an open one are below 2^20;
+-- and `sound-cores`, that its recorded cores are sound.
 use Prim.Native.Nat.{ℕ, zero, suc, _<_}
 use mathlib.Core.Path.{_≡_, refl}
-use mathlib.Core.Bool.{true, false}
+use mathlib.Core.Bool.{true, false, _&&_}
+use lib.ListN.{take}
 use native.Mathlib.Omega.{arith}
 use Rattle.laws.proofs.CaseSplits.{by-equal, by-test, not-both}
 use Rattle.laws.proofs.Booleans.{and-left, and-right}
@@ -18,6 +20,7 @@ use Rattle.tasks.proofs.Range.{range-of}
 use Rattle.tasks.proofs.OutcomeLaws.{is-done}
 use Rattle.tasks.proofs.TaskSetLaws.{well-checked}
 use Rattle.job.specs.Sound.{jobSound}
+use Rattle.cores.specs.Record.{coresSound}
 use Rattle.job.proofs.RankLaws.{Small}
 use Rattle.job.proofs.SoundLaws.{closed-numbers, open-numbers, free-closed}
 use Rattle.machine.specs.Machine.{taskAt, jobAt}
@@ -47,14 +50,23 @@ all-sound m (suc n) each = rw (all-sound m n (λ i h. each i (omega arith)), eac
 pub make-sound :
     (m : Machine) → checked (m .table) (m .cores) ≡ Done
     → ((i : ℕ) → i < m .table .count → jobSound (taskAt m i) (jobAt m i) ≡ true)
+    → coresSound (take (m .table .count) (m .assigned)) ≡ true
     → sound m ≡ true
 unfolding sound isDone
-make-sound m checks each = rw (checks, all-sound m (m .table .count) each)
+make-sound m checks each placed = rw (checks, all-sound m (m .table .count) each, placed)
 
 module _ (m : Machine) (ok : sound m ≡ true) where
-  pub sound-checks : checked (m .table) (m .cores) ≡ Done
+  -- its table, cores and jobs
+  pub before-cores : (isDone (checked (m .table) (m .cores)) && jobsSound m (m .table .count)) ≡ true
   unfolding sound
-  sound-checks = is-done _ (and-left _ _ ok)
+  before-cores = and-left _ (coresSound (take (m .table .count) (m .assigned))) ok
+
+  pub sound-checks : checked (m .table) (m .cores) ≡ Done
+  sound-checks = is-done _ (and-left _ _ before-cores)
+
+  pub sound-cores : coresSound (take (m .table .count) (m .assigned)) ≡ true
+  unfolding sound
+  sound-cores = and-right (isDone (checked (m .table) (m .cores)) && jobsSound m (m .table .count)) _ ok
 
   pub sound-passes : Passes (m .table) (m .cores)
   sound-passes = passes (m .table) (m .cores) sound-checks
@@ -63,8 +75,7 @@ module _ (m : Machine) (ok : sound m ≡ true) where
   sound-fits = well-checked (m .table) (m .cores) sound-checks
 
   pub sound-job : (i : ℕ) → i < m .table .count → jobSound (taskAt m i) (jobAt m i) ≡ true
-  unfolding sound
-  sound-job = each-sound m (m .table .count) (and-right (isDone (checked (m .table) (m .cores))) _ ok)
+  sound-job = each-sound m (m .table .count) (and-right (isDone (checked (m .table) (m .cores))) _ before-cores)
 
   pub sound-closed : (i : ℕ) → i < m .table .count → jobAt m i .«open» ≡ false → NoJob (jobsOf m) i
   unfolding jobsOf

@@ -1,5 +1,5 @@
 -- The calls of the machine: document 01, "The slot machine" and "Why a call is not carried out"; a slot by document 02, change 1, a release by
--- change 3.
+-- change 3, and the cores of a start, a slot and a join by change 4.
 use Prim.Native.Nat.{ℕ, _-_}
 use mathlib.Core.Bool.{Bool, cond, not, _&&_}
 use lib.Dec.{leb, ltb}
@@ -18,6 +18,7 @@ use Rattle.job.specs.Job.{freshJob, releasedJob, closedJob}
 use Rattle.machine.specs.Machine.{zeroMachine, taskAt, jobAt, withJob, inTable}
 use Rattle.machine.specs.Pick.{runners}
 use Rattle.machine.specs.Slot.{noReport, slotReport, afterSlot}
+use Rattle.machine.specs.Cores.{slotAssignment, withAssigned}
 use Rattle.machine.specs.Sound.{sound}
 use Rattle.machine.specs.declared.machine.Machine.{Machine}
 use Rattle.machine.specs.declared.call.Call.{Call}
@@ -32,9 +33,10 @@ done m = record { machine = m; outcome = Done; report = noReport }
 unfoldable pub refuse : Machine → (number : ℕ) → Answer
 refuse m number = record { machine = m; outcome = Refused number 0; report = noReport }
 
--- a start, after the refusals of starting were tried: "A fresh machine has every task closed and all three numbers 0"
+-- a start, after the refusals of starting were tried: "A fresh machine has every task closed and all three numbers 0"; change 4: "no core, .. at a
+-- start"
 unfoldable pub startAfter : Outcome → Table → (cores : ℕ) → Answer
-startAfter Done t cores = done (record { table = t; cores = cores; jobs = replicate maxTasks freshJob })
+startAfter Done t cores = done (record { table = t; cores = cores; jobs = replicate maxTasks freshJob; assigned = replicate maxTasks 0 })
 startAfter (Refused number place) t cores =
     record { machine = zeroMachine; outcome = Refused number place; report = noReport }
 
@@ -62,18 +64,25 @@ finish m number =
 unfoldable pub slotCoresInRange : Machine → (k : ℕ) → Bool
 slotCoresInRange m k = leb (m .cores) k && leb k maxCores
 
--- change 1: "A slot call now names how many cores it has, k"; "number 14, tried after 0; machine unchanged"
+-- change 1: "A slot call now names how many cores it has, k"; "number 14, tried after 0; machine unchanged"; change 4: the machine
+-- records the cores that are answered
 unfoldable pub slot : Machine → (k : ℕ) → Answer
 slot m k =
     let ran = runners m k in
+    let cores = slotAssignment m k in
     cond (not (sound m)) (refuse m unsoundMachine)
     (cond (not (slotCoresInRange m k)) (refuse m slotCoresOutOfRange)
-    (record { machine = afterSlot m ran; outcome = Done; report = slotReport m ran }))
+    (record { machine = withAssigned (afterSlot m ran) cores; outcome = Done; report = slotReport m ran cores }))
 
--- "added at the end of the table, closed, gap 0"
+-- "added at the end of the table, closed, gap 0", with no core
 unfoldable pub withJoined : Machine → Task → Machine
 withJoined m t =
-    record { table = withTask (m .table) t; cores = m .cores; jobs = set (m .jobs) (m .table .count) freshJob }
+    record {
+      table = withTask (m .table) t;
+      cores = m .cores;
+      jobs = set (m .jobs) (m .table .count) freshJob;
+      assigned = set (m .assigned) (m .table .count) 0;
+    }
 
 -- a join, after the verdict on the longer table: "if the longer table is admitted on m cores"; "A join whose verdict is a refusal ends there with
 -- that refusal."

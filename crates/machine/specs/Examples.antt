@@ -1,7 +1,8 @@
 -- Examples beside the cases of document 01, as entries of lists of computed tests; above 150 lines because it is these lists alone, with the words
 -- that they are written in. `examples` has runs of the machine: 32 tasks on 16 cores, joins, a task that turns urgent, refused calls, slots with
 -- other cores than the machine's (document 02, change 1), jobs of equal deadlines (change 2), and machines made by hand (change 3). `claims` has logs
--- made by hand, and what the claim of demand 3 says of them. `allTrue` is the test; the theorems stand in proofs/ExamplesHold.antt.
+-- made by hand, and what the claim of demand 3 says of them. `allTrue` of crate cores is the test; the theorems
+-- stand in proofs/ExamplesHold.antt.
 use Prim.Native.Nat.{ℕ, _+_}
 use mathlib.Core.Bool.{Bool, true, false, cond, not, _&&_}
 use mathlib.Core.List.{List, [], _∷_, _++_}
@@ -15,6 +16,7 @@ use Rattle.tasks.specs.Refusals.{unsoundMachine}
 use Rattle.tasks.specs.Limits.{maxTasks}
 use Rattle.tasks.specs.Table.{emptyTable}
 use Rattle.job.specs.Job.{freshJob}
+use Rattle.cores.specs.Examples.{sameNumbers}
 use Rattle.machine.specs.declared.machine.Machine.{Machine}
 use Rattle.machine.specs.Mask.{mask}
 use Rattle.machine.specs.Slot.{noReport}
@@ -45,13 +47,6 @@ unfoldable pub runnerCounts : List Entry → List ℕ
 runnerCounts [] = []
 runnerCounts (e ∷ log) = cond (acceptedSlot e) (e .report .runners ∷ runnerCounts log) (runnerCounts log)
 
--- two lists have the same numbers
-unfoldable pub sameNumbers : List ℕ → List ℕ → Bool
-sameNumbers [] [] = true
-sameNumbers [] (y ∷ t) = false
-sameNumbers (x ∷ s) [] = false
-sameNumbers (x ∷ s) (y ∷ t) = eqb x y && sameNumbers s t
-
 -- the calls are refused with these numbers, the others carried out, and the accepted slots report these lines
 unfoldable pub runIs : List Task → (cores : ℕ) → List Call → (numbers : List ℕ) → List Line → Bool
 runIs tasks cores calls numbers lines =
@@ -66,6 +61,11 @@ ignoredIs tasks cores before call number after lines =
 -- 32 tasks: the last 12 have the earlier deadline
 unfoldable pub many : List Task
 many = replicate 20 (task 40 2 20) ++ replicate 12 (task 40 3 7)
+
+-- all of them released on 16 cores, six slots report these lines and these numbers of runners
+unfoldable pub manyIs : List Line → (counts : List ℕ) → Bool
+manyIs lines counts =
+    let log = answers many 16 (releases 32 ++ replicate 6 (Slot 16)) in sameLines (slotLines log) lines && sameNumbers (runnerCounts log) counts
 
 -- a task that must run in both slots to its deadline
 unfoldable pub pressed : List Task
@@ -93,7 +93,7 @@ emptyRefusals (e ∷ log) =
 
 -- a machine made by hand that is unsound: it has 2 cores and no task
 unfoldable pub withoutTasks : Machine
-withoutTasks = record { table = emptyTable; cores = 2; jobs = replicate maxTasks freshJob }
+withoutTasks = record { table = emptyTable; cores = 2; jobs = replicate maxTasks freshJob; assigned = replicate maxTasks 0 }
 
 -- a machine made by hand: a task 6, 3, 5 on 1 core, with this record
 unfoldable pub madeByHand : (isOpen : Bool) → (left budget gap : ℕ) → Machine
@@ -102,6 +102,7 @@ madeByHand isOpen left budget gap =
       table = tableOf (task 6 3 5 ∷ []);
       cores = 1;
       jobs = set (replicate maxTasks freshJob) 0 (record { «open» = isOpen; left = left; budget = budget; gap = gap });
+      assigned = replicate maxTasks 0;
     }
 
 -- calls of every kind, each also with a number, cores or a task that it refuses
@@ -130,18 +131,15 @@ examples =
     holds (verdictIs many 16 12 true) ∷
     holds (verdictIs many 11 12 false) ∷
     -- all 32 released: tasks 21 to 32 run first, beside them in turn 1 to 4, 5 to 8 and 9 to 12; then 13 to 20, which owe most, with 1 to 8; then
-    -- 9 to 20, which owe 1 each
-    holds
-    (sessionIs many 16
+    -- 9 to 20, which owe 1 each; so 16 run while 16 or more are open, then 12, then none
+    manyIs
     (line 4_293_918_735 0 0 ∷
     line 4_293_918_960 0 0 ∷
     line 4_293_922_560 4_293_918_720 0 ∷
     line 1_044_735 255 0 ∷
     line 1_048_320 1_048_320 0 ∷
     line 0 0 0 ∷
-    [])) ∷
-    -- 16 run while 16 or more are open, then 12, then none
-    sameNumbers (runnerCounts (answers many 16 (releases 32 ++ replicate 6 (Slot 16))))
+    [])
     (16 ∷ 16 ∷ 16 ∷ 16 ∷ 12 ∷ 0 ∷ []) ∷
     -- a 33rd task is refused by 12
     runIs many 16 (Join (task 40 1 40) ∷ []) (12 ∷ []) [] ∷
@@ -236,7 +234,7 @@ slotOf ran finished =
     record {
       call = Slot 1;
       outcome = Done;
-      report = record { ran = ran ∷ []; finished = finished ∷ []; late = []; runners = bit ran };
+      report = record { ran = ran ∷ []; finished = finished ∷ []; late = []; runners = bit ran; assigned = [] };
     }
 
 -- a slot in which task 1 did not run
@@ -289,8 +287,3 @@ claims =
     eqb (slotCount (drop 1 (answers pressed 2 pressedCalls))) 2 ∷
     closedIn 2 2 (drop 1 (answers pressed 2 pressedCalls)) ∷
     []
-
--- every test of a list holds
-unfoldable pub allTrue : List Bool → Bool
-allTrue [] = true
-allTrue (b ∷ l) = b && allTrue l

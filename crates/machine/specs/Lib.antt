@@ -1,12 +1,16 @@
 pub mod Machine
 pub mod Pick
 pub mod Slot
+pub mod Cores
 pub mod Ranks
 pub mod Sound
 pub mod Calls
 pub mod FormerRelease
 pub mod Play
+pub mod BareMachine
+pub mod BareCalls
 pub mod InTime
 pub mod Mask
 pub mod Cases
 pub mod Examples
+pub mod CoreExamples

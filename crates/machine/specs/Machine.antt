@@ -12,7 +12,7 @@ use Rattle.machine.specs.declared.machine.Machine.{Machine}
 
 -- "a machine of zeros"
 unfoldable pub zeroMachine : Machine
-zeroMachine = record { table = emptyTable; cores = 0; jobs = replicate maxTasks freshJob }
+zeroMachine = record { table = emptyTable; cores = 0; jobs = replicate maxTasks freshJob; assigned = replicate maxTasks 0 }
 
 -- the task at an index, from 0
 unfoldable pub taskAt : Machine → ℕ → Task
@@ -22,9 +22,13 @@ taskAt m i = getD (m .table .tasks) i zeroTask
 unfoldable pub jobAt : Machine → ℕ → Job
 jobAt m i = getD (m .jobs) i freshJob
 
+-- the core recorded for the task at an index, from 0: document 02, change 4; 0 is "no core"
+unfoldable pub coreAt : Machine → ℕ → ℕ
+coreAt m i = getD (m .assigned) i 0
+
 -- the machine with another job at an index
 unfoldable pub withJob : Machine → ℕ → Job → Machine
-withJob m i j = record { table = m .table; cores = m .cores; jobs = set (m .jobs) i j }
+withJob m i j = record { table = m .table; cores = m .cores; jobs = set (m .jobs) i j; assigned = m .assigned }
 
 -- "The task number is not in the table", the other way round
 unfoldable pub inTable : Machine → (number : ℕ) → Bool

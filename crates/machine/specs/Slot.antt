@@ -20,7 +20,7 @@ passed m ran i = aged (charged (getD ran i false) (jobAt m i))
 unfoldable pub ranCount : Machine → (ran : List Bool) → ℕ
 ranCount m ran = sumTo (m .table .count) (λ i. bit (getD ran i false))
 
--- "a refused slot names no task and gives 0 runners"; every call that is no slot reports the same
+-- "a refused slot names no task and gives 0 runners", and no core; every call that is no slot reports the same
 unfoldable pub noReport : Report
 noReport =
     record {
@@ -28,23 +28,27 @@ noReport =
       finished = replicate maxTasks false;
       late = replicate maxTasks false;
       runners = 0;
+      assigned = replicate maxTasks 0;
     }
 
--- "The answer tells for each task whether it ran, finished, was late, and gives the number that ran."
-unfoldable pub slotReport : Machine → (ran : List Bool) → Report
-slotReport m ran =
+-- "The answer tells for each task whether it ran, finished, was late, and gives the number that ran."; document 02, change 4: "The slot answer gains the
+-- core of each runner."
+unfoldable pub slotReport : Machine → (ran : List Bool) → (cores : List ℕ) → Report
+slotReport m ran cores =
     record {
       ran = ran;
       finished = replaced (m .table .count) (λ i. isFinished (passed m ran i)) (replicate maxTasks false);
       late = replaced (m .table .count) (λ i. isLate (passed m ran i)) (replicate maxTasks false);
       runners = ranCount m ran;
+      assigned = cores;
     }
 
--- the machine after a slot
+-- the machine after steps 2 to 4
 unfoldable pub afterSlot : Machine → (ran : List Bool) → Machine
 afterSlot m ran =
     record {
       table = m .table;
       cores = m .cores;
       jobs = replaced (m .table .count) (λ i. settled (passed m ran i)) (m .jobs);
+      assigned = m .assigned;
     }

@@ -10,12 +10,14 @@ ghost use Rattle.machine.specs.Calls.{done, refuse};
 // One flag for each task.
 pub type Flags = [bool; MAX_TASKS];
 
-// What a slot says of each task, and how many ran. Every other call, and a refused slot, says nothing of any task.
+// What a slot says of each task, how many ran, and the core of each runner, 0 for every other task. Every other call, and a refused slot, says nothing
+// of any task.
 pub struct Report {
     pub ran: [bool; MAX_TASKS],
     pub finished: [bool; MAX_TASKS],
     pub late: [bool; MAX_TASKS],
     pub runners: u32,
+    pub assigned: [u32; MAX_TASKS],
 }
 
 // The machine after the call, whether the call was carried out, and a slot's report.
@@ -35,6 +37,7 @@ impl Report {
             finished: [false; MAX_TASKS],
             late: [false; MAX_TASKS],
             runners: 0,
+            assigned: [0; MAX_TASKS],
         }
     }
 }

@@ -16,7 +16,7 @@ ghost use Rattle.tasks.specs.Limits.{maxTasks};
 ghost use Rattle.machine.specs.Calls.{withJoined, join};
 
 impl Machine {
-    // The machine with the task at the end of its table, closed.
+    // The machine with the task at the end of its table, closed, with no core.
     fn with_joined(mut self, task: Task) -> Self
         requires { ⌜ self .table .count < maxTasks ⌝ }
         ensures { λ r. ⌜ r ≡ withJoined self task ⌝ }
@@ -26,6 +26,7 @@ impl Machine {
         table.tasks[count] = task;
         table.count = count + 1;
         self.table = table;
+        self.assigned[count] = 0;
         self.with_job(count, fresh_job())
     }
 

@@ -7,11 +7,13 @@ ghost use mathlib.Core.Path.{_≡_};
 ghost use Rattle.tasks.specs.Limits.{maxTasks};
 ghost use Rattle.machine.specs.Machine.{withJob, inTable};
 
-// The table, the number of cores, and for each task its job. Entries past the table's count are no part of it.
+// The table, the number of cores, and for each task its job and its core in the last accepted slot, 0 for none. Entries past the table's count are no
+// part of it.
 pub struct Machine {
     pub table: Table,
     pub cores: u32,
     pub jobs: [Job; MAX_TASKS],
+    pub assigned: [u32; MAX_TASKS],
 }
 
 impl Machine {

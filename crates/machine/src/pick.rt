@@ -6,8 +6,10 @@ use tasks::limits::MAX_TASKS;
 ghost use Prim.Native.Nat.{_≤_};
 ghost use mathlib.Core.Path.{_≡_};
 ghost use mathlib.Core.Bool.{true};
+ghost use lib.ListN.{length, take};
 ghost use Rattle.tasks.specs.Limits.{maxTasks};
 ghost use Rattle.machine.specs.Pick.{openCount, runnerCount, pick};
+ghost use Rattle.machine.specs.Cores.{runnerOrder};
 ghost use Rattle.machine.specs.Ranks.{ranks as ranksOf};
 ghost use Rattle.machine.specs.Sound.{sound};
 
@@ -49,21 +51,27 @@ impl Machine {
         found
     }
 
-    // The first `wanted` open tasks in precedence, by the tasks' ranks. A task that is picked waits no longer.
-    pub(crate) fn pick(self, ranks: [u64; MAX_TASKS], wanted: u32) -> [bool; MAX_TASKS]
-        requires { ⌜ (sound self ≡ true) × (ranks ≡ ranksOf self (pick self 0)) × (wanted ≤ openCount self) ⌝ }
-        ensures { λ r. ⌜ r ≡ pick self wanted ⌝ }
+    // The first `wanted` open tasks in precedence, by the tasks' ranks, and their indexes in that order. A task that is picked waits no longer.
+    pub(crate) fn pick(
+        self,
+        ranks: [u64; MAX_TASKS],
+        wanted: u32,
+        order: &mut [usize],
+    ) -> [bool; MAX_TASKS]
+        requires { ⌜ (sound self ≡ true) × (ranks ≡ ranksOf self (pick self 0)) × (wanted ≤ openCount self) × (length (now order) ≡ maxTasks) ⌝ }
+        ensures { λ r. ⌜ (r ≡ pick self wanted) × (take wanted (now (order .exit)) ≡ runnerOrder self wanted) ⌝ }
     {
         let mut waiting = ranks;
-        let mut picked = [false; MAX_TASKS];
+        let mut ran = [false; MAX_TASKS];
         let mut found: u32 = 0;
         while found < wanted {
             let count = self.table.count;
             let next = next_runner(&waiting[..count]) - 1;
-            picked[next] = true;
+            ran[next] = true;
+            order[found as usize] = next;
             waiting[next] = NEVER;
             found += 1;
         }
-        picked
+        ran
     }
 }

@@ -1,7 +1,8 @@
-// A slot: the pick of its runners, and what it does to every job.
+// A slot: the pick of its runners, their cores, and what it does to every job.
 use crate::answer::Answer;
 use crate::answer::Report;
 use crate::machine::Machine;
+use cores::assign::assign;
 use tasks::limits::MAX_CORES;
 use tasks::limits::MAX_TASKS;
 use tasks::outcome::Outcome;
@@ -12,13 +13,14 @@ ghost use mathlib.Core.Path.{_≡_};
 ghost use Rattle.tasks.specs.declared.outcome.Outcome.the-variants.{Done};
 ghost use Rattle.tasks.specs.Limits.{maxTasks};
 ghost use Rattle.machine.specs.Slot.{ranCount, afterSlot, slotReport};
+ghost use Rattle.machine.specs.Cores.{withAssigned};
 ghost use Rattle.machine.specs.Calls.{slotCoresInRange, slot};
 
 impl Machine {
-    // Steps 2 to 4 of a slot in which these tasks ran, so many in number.
-    fn passed(mut self, ran: [bool; MAX_TASKS], runners: u32) -> Answer
+    // Steps 2 to 4 of a slot in which these tasks ran, so many in number, on these cores, which the machine records.
+    fn passed(mut self, ran: [bool; MAX_TASKS], runners: u32, assigned: [u32; MAX_TASKS]) -> Answer
         requires { ⌜ (self .table .count ≤ maxTasks) × (runners ≡ ranCount self ran) ⌝ }
-        ensures { λ r. ⌜ r ≡ record { machine = afterSlot self ran; outcome = Done; report = slotReport self ran } ⌝ }
+        ensures { λ r. ⌜ r ≡ record { machine = withAssigned (afterSlot self ran) assigned; outcome = Done; report = slotReport self ran assigned } ⌝ }
     {
         let count = self.table.count;
         let mut finished = [false; MAX_TASKS];
@@ -30,6 +32,7 @@ impl Machine {
             finished[i] = passed.is_finished();
             late[i] = passed.is_late();
             self.jobs[i] = passed.settled();
+            self.assigned[i] = assigned[i];
             i += 1;
         }
         Answer {
@@ -40,6 +43,7 @@ impl Machine {
                 finished,
                 late,
                 runners,
+                assigned,
             },
         }
     }
@@ -54,7 +58,7 @@ impl Machine {
         available <= MAX_CORES
     }
 
-    // One slot with so many cores: the pick of the runners, and what it does to every job.
+    // One slot with so many cores: the pick of the runners, the core of each, and what it does to every job.
     pub fn slot(self, available: u32) -> Answer
         ensures { λ r. ⌜ r ≡ slot self available ⌝ }
     {
@@ -67,7 +71,10 @@ impl Machine {
         let tasks = self.ranks();
         let ranks = tasks.ranks;
         let runners = self.runner_count(available, tasks.found);
-        let ran = self.pick(ranks, runners);
-        self.passed(ran, runners)
+        let mut order = [0usize; MAX_TASKS];
+        let ran = self.pick(ranks, runners, &mut order);
+        let recorded = self.assigned;
+        let assigned = assign(recorded, &order[..runners as usize], available);
+        self.passed(ran, runners, assigned)
     }
 }

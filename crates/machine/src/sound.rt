@@ -1,5 +1,6 @@
 // Whether a machine that is handed in is sound.
 use crate::machine::Machine;
+use cores::record::cores_sound;
 use tasks::check::check;
 use tasks::outcome::Outcome;
 ghost use Prim.Native.Nat.{_≤_};
@@ -27,7 +28,7 @@ impl Machine {
         true
     }
 
-    // Whether a start would take its table and its cores, and every job is sound.
+    // Whether a start would take its table and its cores, every job is sound, and so are the recorded cores.
     pub fn is_sound(self) -> bool
         ensures { λ r. ⌜ r ≡ sound self ⌝ }
     {
@@ -39,6 +40,10 @@ impl Machine {
         } = outcome {
             return false;
         }
-        self.jobs_sound()
+        if !self.jobs_sound() {
+            return false;
+        }
+        let recorded = self.assigned;
+        cores_sound(&recorded[..table.count])
     }
 }

@@ -21,6 +21,7 @@ pub fn zero_machine() -> Machine
         table,
         cores: 0,
         jobs: [fresh; MAX_TASKS],
+        assigned: [0; MAX_TASKS],
     }
 }
 
@@ -44,6 +45,7 @@ impl Machine {
             table,
             cores,
             jobs: [fresh; MAX_TASKS],
+            assigned: [0; MAX_TASKS],
         })
     }
 }

@@ -22,7 +22,7 @@ use Rattle.script.specs.declared.calls.CallLine.the-variants as Line
 use Rattle.script.proofs.CallLaws.{call-short}
 use Rattle.tasks.specs.Limits.{maxTasks}
 use Rattle.probe.specs.Words.{machineWord}
-use Rattle.probe.specs.Input.{firstIs, isMachineLine, countOf, coresOf, zeroEntries, isEntryLine, taskOf, jobOf, withEntry, onlyCall, lastLine}
+use Rattle.probe.specs.Input.{firstIs, isMachineLine, countOf, coresOf, zeroEntries, isEntryLine, taskOf, jobOf, recordedOf, withEntry, onlyCall, lastLine}
 use Rattle.probe.specs.Printed.{printedFrom, printed}
 
 -- a first line that has at most b bytes with its byte 10 where it is what it must be
@@ -43,16 +43,16 @@ module _ (must : List ℕ → Bool) (b : ℕ) (short : (l : List ℕ) → must l
       let n = short (before lineEnd s) (and-right (has lineEnd s) (must (before lineEnd s)) t) in
       (n, taken k s (omega arith))
 
--- the first line has at most 30 bytes, and that of an entry 77
+-- the first line has at most 30 bytes, and that of an entry 88
 machine-short : (l : List ℕ) → isMachineLine l ≡ true → length l + 1 ≤ 30
 unfolding isMachineLine
 machine-short l t =
     let n = numbers-short maxDigits maxNumber 2 (drop 8 l) (and-right (beginsWith machineWord l) (areNumbers maxDigits maxNumber 2 (drop 8 l)) t) in
     omega (arith, length-drop 8 l)
 
-entry-short : (l : List ℕ) → isEntryLine l ≡ true → length l + 1 ≤ 77
+entry-short : (l : List ℕ) → isEntryLine l ≡ true → length l + 1 ≤ 88
 unfolding isEntryLine
-entry-short l t = numbers-short maxDigits maxNumber 7 l (and-left (areNumbers maxDigits maxNumber 7 l) _ t)
+entry-short l t = numbers-short maxDigits maxNumber 8 l (and-left (areNumbers maxDigits maxNumber 8 l) _ t)
 
 -- of what follows the call only the first byte matters
 empty-same : (j : ℕ) (s : List ℕ) → 0 < j → isEmpty (take j s) ≡ isEmpty s
@@ -83,19 +83,19 @@ last-same k s h =
     let t = taken k s m in
     rw (t .is, t .line, t .rest, only-same (callOf l) (k - (length l + 1)) (after lineEnd s) (λ call e. omega (arith, call-short l call e))))
 
-entries-same : (m : Machine) (i more k : ℕ) (s : List ℕ) → 77 * more + 39 ≤ k → printedFrom m i more (take k s) ≡ printedFrom m i more s
+entries-same : (m : Machine) (i more k : ℕ) (s : List ℕ) → 88 * more + 39 ≤ k → printedFrom m i more (take k s) ≡ printedFrom m i more s
 unfolding printedFrom
 entries-same m i zero k s h = rw (last-same k s (omega arith))
 entries-same m i (suc more) k s h =
     let l = before lineEnd s in
-    let same = first-same isEntryLine 77 entry-short k s (omega arith) in
+    let same = first-same isEntryLine 88 entry-short k s (omega arith) in
     by-test (firstIs isEntryLine s)
     (λ b.
-    let (n, t) = first-taken isEntryLine 77 entry-short k s (omega arith) b in
-    rw (same, b, t .line, t .rest) (entries-same (withEntry m i (taskOf l) (jobOf l)) (suc i) more (k - (length l + 1)) (after lineEnd s) (omega arith)))
+    let (n, t) = first-taken isEntryLine 88 entry-short k s (omega arith) b in
+    rw (same, b, t .line, t .rest) (entries-same (withEntry m i (taskOf l) (jobOf l) (recordedOf l)) (suc i) more (k - (length l + 1)) (after lineEnd s) (omega arith)))
     (λ b. rw (same, b))
 
-printed-same : (k : ℕ) (s : List ℕ) → 2533 ≤ k → printed (take k s) ≡ printed s
+printed-same : (k : ℕ) (s : List ℕ) → 2885 ≤ k → printed (take k s) ≡ printed s
 unfolding printed
 printed-same k s h =
     let l = before lineEnd s in

@@ -16,7 +16,7 @@ use Rattle.tasks.specs.Limits.{maxTasks}
 use Rattle.tasks.specs.declared.task.Task.{Task}
 use Rattle.job.specs.declared.job.Job.{Job}
 use Rattle.machine.specs.declared.machine.Machine.{Machine}
-use Rattle.probe.specs.Input.{firstIs, isEntryLine, taskOf, jobOf, withEntry, entryOf, lastLine}
+use Rattle.probe.specs.Input.{firstIs, isEntryLine, taskOf, jobOf, recordedOf, withEntry, entryOf, lastLine}
 use Rattle.probe.specs.Printed.{printedFor, printedFrom}
 use Rattle.probe.specs.declared.input.Asked.{Asked}
 use Rattle.probe.specs.declared.input.Asked.the-variants as Asked
@@ -24,21 +24,22 @@ use Rattle.probe.specs.declared.input.EntryLine.the-variants.{Read, Bad}
 use Rattle.probe.proofs.InputLaws.{is-ended}
 
 -- what the line of an entry says of the text that begins with it
-record Entered (s : List ℕ) (t : Task) (j : Job) (n : ℕ) : Type 0 where
+record Entered (s : List ℕ) (t : Task) (j : Job) (c n : ℕ) : Type 0 where
   is : firstIs isEntryLine s ≡ true
   task : taskOf (before lineEnd s) ≡ t
   job : jobOf (before lineEnd s) ≡ j
+  core : recordedOf (before lineEnd s) ≡ c
   within : n ≤ length s
   rest : after lineEnd s ≡ drop n s
 
-entered : (s : List ℕ) (t : Task) (j : Job) (n : ℕ) → entryOf s ≡ Read t j n → Entered s t j n
+entered : (s : List ℕ) (t : Task) (j : Job) (c n : ℕ) → entryOf s ≡ Read t j c n → Entered s t j c n
 unfolding entryOf
-entered s t j n =
-    by-cond (λ r. r ≡ Read t j n → Entered s t j n) (firstIs isEntryLine s)
+entered s t j c n =
+    by-cond (λ r. r ≡ Read t j c n → Entered s t j c n) (firstIs isEntryLine s)
     (λ b e.
     let h = here lineEnd s (is-ended isEntryLine s b) in
     let q : length (before lineEnd s) + 1 ≡ n = cc in
-    record { is = b; task = cc; job = cc; within = omega (arith, h .within); rest = rw (← q) (sym (h .rest)) })
+    record { is = b; task = cc; job = cc; core = cc; within = omega (arith, h .within); rest = rw (← q) (sym (h .rest)) })
     (λ b e. clash cc)
 
 refused : (s : List ℕ) → entryOf s ≡ Bad → firstIs isEntryLine s ≡ false
@@ -70,18 +71,18 @@ module _ (m : Machine) (s : List ℕ) (m' : Machine) (place i : ℕ) (p : Fillin
     unfolding printedFrom printedFor
     no-entry b = p .left ∙ rw (another, refused (drop place s) (rw (from-drop s place) at b))
 
-    module _ (t : Task) (j : Job) (n : ℕ) (e : entryOf (from s place) ≡ Read t j n) where
-      entry : Entered (drop place s) t j n
-      entry = entered (drop place s) t j n (rw (from-drop s place) at e)
+    module _ (t : Task) (j : Job) (c n : ℕ) (e : entryOf (from s place) ≡ Read t j c n) where
+      entry : Entered (drop place s) t j c n
+      entry = entered (drop place s) t j c n (rw (from-drop s place) at e)
 
       pub fits : place + n ≤ length s
       fits = omega (arith, p .within, entry .within, length-drop place s)
 
-      pub fill-more : Filling m s (withEntry m' i t j) (place + n) (i + 1)
+      pub fill-more : Filling m s (withEntry m' i t j c) (place + n) (i + 1)
       unfolding printedFrom
       fill-more =
           record {
             few = omega arith;
             within = fits;
-            left = p .left ∙ rw (another, entry .is, entry .task, entry .job, entry .rest, drop-drop n place s, add-one i);
+            left = p .left ∙ rw (another, entry .is, entry .task, entry .job, entry .core, entry .rest, drop-drop n place s, add-one i);
           }

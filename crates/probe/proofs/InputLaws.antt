@@ -1,5 +1,5 @@
 -- What the first line of a text says, by what was found of it. Others cite `is-ended`, and, of the machine's line: `no-machine`, `no-word`, `no-pair`
--- and `machine-read`; of an entry's: `no-entry`, `no-seven`, `no-flag` and `entry-read`; of the call's: `no-line`, `no-call`, `more-follows`, `call-read`.
+-- and `machine-read`; of an entry's: `no-entry`, `no-eight`, `no-flag` and `entry-read`; of the call's: `no-line`, `no-call`, `more-follows`, `call-read`.
 use Prim.Native.Nat.{ℕ, _+_, _≤_, _<_}
 use native.Mathlib.Omega.{arith}
 use mathlib.Core.Path.{_≡_, refl, sym, ap, _∙_}
@@ -22,7 +22,7 @@ use Rattle.script.specs.Calls.{callOf}
 use Rattle.script.specs.declared.calls.CallLine.the-variants as Line
 use Rattle.machine.specs.declared.call.Call.{Call}
 use Rattle.probe.specs.Words.{machineWord}
-use Rattle.probe.specs.Input.{firstIs, isMachineLine, countOf, coresOf, isEntryLine, taskOf, jobOf, firstLine, entryOf, onlyCall, lastLine}
+use Rattle.probe.specs.Input.{firstIs, isMachineLine, countOf, coresOf, isEntryLine, taskOf, jobOf, recordedOf, firstLine, entryOf, onlyCall, lastLine}
 use Rattle.probe.specs.declared.input.FirstLine.the-variants as First
 use Rattle.probe.specs.declared.input.EntryLine.the-variants as Entry
 use Rattle.probe.specs.declared.input.Asked.the-variants as Asked
@@ -71,12 +71,12 @@ module _ (s : List ℕ) (k : ℕ) (e : k ≡ length (before lineEnd s)) where
           rw
           (line .is, ← line .front, w, ← f, ← rw l at (n .is), ← n .each refl 0 (omega arith), ← n .each refl 1 (omega arith), ap length (line .front) ∙ sym e)
 
-    pub no-seven : areNumbers maxDigits maxNumber 7 (take k s) ≡ false → Entry.Bad ≡ entryOf s
+    pub no-eight : areNumbers maxDigits maxNumber 8 (take k s) ≡ false → Entry.Bad ≡ entryOf s
     unfolding entryOf firstIs isEntryLine
-    no-seven n = rw (line .is, ← line .front, n)
+    no-eight n = rw (line .is, ← line .front, n)
 
-    module _ (a : List ℕ) (l : length a ≡ 7) (n : NumbersRead maxDigits maxNumber (take k s) a true) where
-      number-at : (i : ℕ) → i < 7 → getD a i 0 ≡ decimal (field i (take k s))
+    module _ (a : List ℕ) (l : length a ≡ 8) (n : NumbersRead maxDigits maxNumber (take k s) a true) where
+      number-at : (i : ℕ) → i < 8 → getD a i 0 ≡ decimal (field i (take k s))
       number-at i h = n .each refl i (omega arith)
 
       pub no-flag : 1 < getD a 3 0 → Entry.Bad ≡ entryOf s
@@ -87,13 +87,14 @@ module _ (s : List ℕ) (k : ℕ) (e : k ≡ length (before lineEnd s)) where
           getD a 3 0 ≤ 1
           → Entry.Read (record { period = getD a 0 0; budget = getD a 1 0; deadline = getD a 2 0 })
           (record { «open» = eqb (getD a 3 0) 1; left = getD a 4 0; budget = getD a 5 0; gap = getD a 6 0 })
+          (getD a 7 0)
           (k + 1)
           ≡ entryOf s
-      unfolding entryOf firstIs isEntryLine taskOf jobOf
+      unfolding entryOf firstIs isEntryLine taskOf jobOf recordedOf
       entry-read o =
           let is = number-at in
           rw (line .is, ← line .front, ← rw l at (n .is), ← is 3 (omega arith), le-leb (getD a 3 0) 1 o, ap length (line .front) ∙ sym e)
-          (rw (← is 0 (omega arith), ← is 1 (omega arith), ← is 2 (omega arith), ← is 4 (omega arith), ← is 5 (omega arith), ← is 6 (omega arith)))
+          (rw (← is 0 (omega arith), ← is 1 (omega arith), ← is 2 (omega arith), ← is 4 (omega arith), ← is 5 (omega arith), ← is 6 (omega arith), ← is 7 (omega arith)))
 
     pub no-call : callOf (take k s) ≡ Line.Bad → Asked.Bad 34 ≡ lastLine s
     unfolding lastLine onlyCall

@@ -14,7 +14,7 @@ use Rattle.text.proofs.Putting.{put-then, Partly, partly-none, partly-more, par
 use Rattle.tasks.specs.Limits.{maxTasks}
 use Rattle.tasks.specs.declared.task.Task.{Task}
 use Rattle.job.specs.declared.job.Job.{Job}
-use Rattle.machine.specs.Machine.{taskAt, jobAt}
+use Rattle.machine.specs.Machine.{taskAt, jobAt, coreAt}
 use Rattle.machine.specs.declared.machine.Machine.{Machine}
 use Rattle.script.specs.Output.{Line}
 use Rattle.probe.specs.Words.{machineWord}
@@ -33,16 +33,16 @@ flag : (o : Bool) → length (decimalText (cond o 1 0)) ≤ 1
 flag true = text-few 0 1 (omega arith)
 flag false = text-few 0 0 (omega arith)
 
-module _ (t : Task) (j : Job) where
+module _ (t : Task) (j : Job) (core : ℕ) where
   pub entry-few :
-      t .period < 2 ^ 32 → t .budget < 2 ^ 32 → t .deadline < 2 ^ 32 → j .left < 2 ^ 32 → j .budget < 2 ^ 32 → j .gap < 2 ^ 32
-      → length (entryLine t j) ≤ entryRoom
+      t .period < 2 ^ 32 → t .budget < 2 ^ 32 → t .deadline < 2 ^ 32 → j .left < 2 ^ 32 → j .budget < 2 ^ 32 → j .gap < 2 ^ 32 → core < 2 ^ 32
+      → length (entryLine t j core) ≤ entryRoom
   unfolding entryLine numbersLine furtherNumbers
-  entry-few a b c d e f =
+  entry-few a b c d e f g =
       simp length-append
-      (omega (arith, digits (t .period) a, digits (t .budget) b, digits (t .deadline) c, flag (j .«open»), digits (j .left) d, digits (j .budget) e, digits (j .gap) f))
+      (omega (arith, digits (t .period) a, digits (t .budget) b, digits (t .deadline) c, flag (j .«open»), digits (j .left) d, digits (j .budget) e, digits (j .gap) f, digits core g))
 
-first-entry : (m : Machine) (i more : ℕ) → entryLines m i (suc more) ≡ entryLine (taskAt m i) (jobAt m i) ++ entryLines m (suc i) more
+first-entry : (m : Machine) (i more : ℕ) → entryLines m i (suc more) ≡ entryLine (taskAt m i) (jobAt m i) (coreAt m i) ++ entryLines m (suc i) more
 unfolding entryLines
 first-entry m i more = refl
 
@@ -61,13 +61,13 @@ show-none a u m = record { within = omega arith; left = partly-none a u (entryLi
 
 module _ (a : List ℕ) (u : ℕ) (m : Machine) (b : List ℕ) (v i : ℕ) (p : Showing a u m b v i) where
   pub show-more :
-      i < maxTasks → (c : List ℕ) (w : ℕ) → Line entryRoom b v (entryLine (taskAt m i) (jobAt m i)) c w → Showing a u m c w (i + 1)
+      i < maxTasks → (c : List ℕ) (w : ℕ) → Line entryRoom b v (entryLine (taskAt m i) (jobAt m i) (coreAt m i)) c w → Showing a u m c w (i + 1)
   show-more h c w l =
       let z : maxTasks - i ≡ suc (maxTasks - (i + 1)) = omega arith in
-      let next : entryLines m i (maxTasks - i) ≡ entryLine (taskAt m i) (jobAt m i) ++ entryLines m (i + 1) (maxTasks - (i + 1)) =
+      let next : entryLines m i (maxTasks - i) ≡ entryLine (taskAt m i) (jobAt m i) (coreAt m i) ++ entryLines m (i + 1) (maxTasks - (i + 1)) =
       rw (z, add-one i) (first-entry m i (maxTasks - suc i))
       in
-      let lengths = ap length next ∙ length-append (entryLine (taskAt m i) (jobAt m i)) (entryLines m (i + 1) (maxTasks - (i + 1))) in
+      let lengths = ap length next ∙ length-append (entryLine (taskAt m i) (jobAt m i) (coreAt m i)) (entryLines m (i + 1) (maxTasks - (i + 1))) in
       record {
         within = omega arith;
         left = partly-more a u (entryLines m 0 maxTasks) b v _ _ (rw next at (p .left)) c w (l .put);

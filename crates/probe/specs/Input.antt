@@ -1,5 +1,5 @@
--- The lines of the input (docs/HANDBOOK.md, "Probing one call"): "a line `MACHINE count cores`, then 32 lines of seven numbers `PERIOD BUDGET
--- DEADLINE OPEN LEFT OWED GAP` .., then one call line as in replay, and nothing after it".
+-- The lines of the input (docs/HANDBOOK.md, "Probing one call"): "a line `MACHINE count cores`, then 32 lines of eight numbers `PERIOD BUDGET
+-- DEADLINE OPEN LEFT OWED GAP CORE` .., then one call line as in replay, and nothing after it".
 use Prim.Native.Nat.{ℕ, _+_}
 use mathlib.Core.List.{List}
 use mathlib.Core.Bool.{Bool, cond, _&&_}
@@ -45,13 +45,18 @@ coresOf l = decimal (field 1 (drop (length machineWord) l))
 -- the machine of this count and these cores before its entries are read: they are all zero
 unfoldable pub zeroEntries : (count cores : ℕ) → Machine
 zeroEntries count cores =
-    record { table = record { count = count; tasks = replicate maxTasks zeroTask }; cores = cores; jobs = replicate maxTasks freshJob }
+    record {
+      table = record { count = count; tasks = replicate maxTasks zeroTask };
+      cores = cores;
+      jobs = replicate maxTasks freshJob;
+      assigned = replicate maxTasks 0;
+    }
 
--- "seven numbers `PERIOD BUDGET DEADLINE OPEN LEFT OWED GAP`", where "OPEN is 0 or 1"
+-- "eight numbers `PERIOD BUDGET DEADLINE OPEN LEFT OWED GAP CORE`", where "OPEN is 0 or 1"
 unfoldable pub isEntryLine : List ℕ → Bool
-isEntryLine l = areNumbers maxDigits maxNumber 7 l && leb (decimal (field 3 l)) 1
+isEntryLine l = areNumbers maxDigits maxNumber 8 l && leb (decimal (field 3 l)) 1
 
--- the task of such a line, and its job: "OWED the budget still owed"
+-- the task of such a line, its job: "OWED the budget still owed", and its core: "CORE the recorded core"
 unfoldable pub taskOf : List ℕ → Task
 taskOf l = record { period = decimal (field 0 l); budget = decimal (field 1 l); deadline = decimal (field 2 l) }
 
@@ -59,10 +64,18 @@ unfoldable pub jobOf : List ℕ → Job
 jobOf l =
     record { «open» = eqb (decimal (field 3 l)) 1; left = decimal (field 4 l); budget = decimal (field 5 l); gap = decimal (field 6 l) }
 
--- a machine with another task and job at an index: the lines are "one for each entry of the machine"
-unfoldable pub withEntry : Machine → ℕ → Task → Job → Machine
-withEntry m i t j =
-    record { table = record { count = m .table .count; tasks = set (m .table .tasks) i t }; cores = m .cores; jobs = set (m .jobs) i j }
+unfoldable pub recordedOf : List ℕ → ℕ
+recordedOf l = decimal (field 7 l)
+
+-- a machine with another task, job and core at an index: the lines are "one for each entry of the machine"
+unfoldable pub withEntry : Machine → ℕ → Task → Job → (core : ℕ) → Machine
+withEntry m i t j core =
+    record {
+      table = record { count = m .table .count; tasks = set (m .table .tasks) i t };
+      cores = m .cores;
+      jobs = set (m .jobs) i j;
+      assigned = set (m .assigned) i core;
+    }
 
 -- for the contracts of two private functions: what the first line of a text says, as the machine's and as an entry's, and how many bytes it has with its
 -- byte 10
@@ -71,7 +84,7 @@ firstLine s =
     let l = before lineEnd s in cond (firstIs isMachineLine s) (First.Read (countOf l) (coresOf l) (length l + 1)) First.Bad
 
 unfoldable pub entryOf : List ℕ → EntryLine
-entryOf s = let l = before lineEnd s in cond (firstIs isEntryLine s) (Entry.Read (taskOf l) (jobOf l) (length l + 1)) Entry.Bad
+entryOf s = let l = before lineEnd s in cond (firstIs isEntryLine s) (Entry.Read (taskOf l) (jobOf l) (recordedOf l) (length l + 1)) Entry.Bad
 
 -- the call of line 34, after which nothing may follow: "after 34 good lines anything that follows is line 35"
 unfoldable pub onlyCall : CallLine → (following : List ℕ) → Asked

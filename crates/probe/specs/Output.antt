@@ -1,4 +1,4 @@
--- The lines of a machine (docs/HANDBOOK.md, "Probing one call"): "`MACHINE count cores` and 32 lines of seven numbers".
+-- The lines of a machine (docs/HANDBOOK.md, "Probing one call"): "`MACHINE count cores` and 32 lines of eight numbers".
 use Prim.Native.Nat.{ℕ, zero, suc}
 use mathlib.Core.List.{List, [], _∷_, _++_}
 use mathlib.Core.Bool.{cond}
@@ -6,31 +6,31 @@ use Rattle.text.specs.Output.{numbersLine}
 use Rattle.tasks.specs.Limits.{maxTasks}
 use Rattle.tasks.specs.declared.task.Task.{Task}
 use Rattle.job.specs.declared.job.Job.{Job}
-use Rattle.machine.specs.Machine.{taskAt, jobAt}
+use Rattle.machine.specs.Machine.{taskAt, jobAt, coreAt}
 use Rattle.machine.specs.declared.machine.Machine.{Machine}
 use Rattle.probe.specs.Words.{machineWord}
 
--- "`PERIOD BUDGET DEADLINE OPEN LEFT OWED GAP`"
-unfoldable pub entryLine : Task → Job → List ℕ
-entryLine t j = numbersLine (t .period ∷ t .budget ∷ t .deadline ∷ cond (j .«open») 1 0 ∷ j .left ∷ j .budget ∷ j .gap ∷ [])
+-- "`PERIOD BUDGET DEADLINE OPEN LEFT OWED GAP CORE`"
+unfoldable pub entryLine : Task → Job → (core : ℕ) → List ℕ
+entryLine t j core = numbersLine (t .period ∷ t .budget ∷ t .deadline ∷ cond (j .«open») 1 0 ∷ j .left ∷ j .budget ∷ j .gap ∷ core ∷ [])
 
 -- the lines of so many entries from the index i on
 unfoldable pub entryLines : Machine → (i more : ℕ) → List ℕ
 entryLines m i zero = []
-entryLines m i (suc more) = entryLine (taskAt m i) (jobAt m i) ++ entryLines m (suc i) more
+entryLines m i (suc more) = entryLine (taskAt m i) (jobAt m i) (coreAt m i) ++ entryLines m (suc i) more
 
 -- all lines of a machine, those of the entries "past the count too"
 unfoldable pub machineLines : Machine → List ℕ
 machineLines m = machineWord ++ numbersLine (m .table .count ∷ m .cores ∷ []) ++ entryLines m 0 maxTasks
 
--- bytes that are enough for the line of an entry: seven numbers of ten digits, and a byte after each
+-- bytes that are enough for the line of an entry: eight numbers of ten digits, and a byte after each
 abbrev pub entryRoom : ℕ
-entryRoom = 77
+entryRoom = 88
 
 -- for those of all 32 entries
 abbrev pub entriesRoom : ℕ
-entriesRoom = 2464
+entriesRoom = 2816
 
 -- for all lines of a machine: 40 more for the first, its word with the space, a count of at most 20 digits, cores of ten, and a byte after either
 abbrev pub machineRoom : ℕ
-machineRoom = 2504
+machineRoom = 2856

@@ -8,7 +8,7 @@ use Rattle.machine.specs.Calls.{step}
 use Rattle.machine.specs.declared.machine.Machine.{Machine}
 use Rattle.machine.specs.declared.call.Call.{Call}
 use Rattle.script.specs.Output.{badLine, answerLine}
-use Rattle.probe.specs.Input.{firstIs, isMachineLine, countOf, coresOf, zeroEntries, isEntryLine, taskOf, jobOf, withEntry, lastLine}
+use Rattle.probe.specs.Input.{firstIs, isMachineLine, countOf, coresOf, zeroEntries, isEntryLine, taskOf, jobOf, recordedOf, withEntry, lastLine}
 use Rattle.probe.specs.Output.{machineLines}
 use Rattle.probe.specs.declared.input.Asked.{Asked}
 use Rattle.probe.specs.declared.input.Asked.the-variants.{Read, Bad}
@@ -27,7 +27,7 @@ unfoldable pub printedFrom : Machine → (i more : ℕ) → List ℕ → List �
 printedFrom m i zero s = printedFor m (lastLine s)
 printedFrom m i (suc more) s =
     let l = before lineEnd s in
-    cond (firstIs isEntryLine s) (printedFrom (withEntry m i (taskOf l) (jobOf l)) (suc i) more (after lineEnd s)) (badLine (i + 2))
+    cond (firstIs isEntryLine s) (printedFrom (withEntry m i (taskOf l) (jobOf l) (recordedOf l)) (suc i) more (after lineEnd s)) (badLine (i + 2))
 
 -- what is printed for a text: "n, counted from 1, is the first line that is not what it must be, is not ended, or is missing"
 unfoldable pub printed : List ℕ → List ℕ
@@ -35,6 +35,6 @@ printed s =
     let l = before lineEnd s in
     cond (firstIs isMachineLine s) (printedFrom (zeroEntries (countOf l) (coresOf l)) 0 maxTasks (after lineEnd s)) (badLine 1)
 
--- bytes that are enough for it: 44 for the line of an answer, and those for a machine's lines
+-- bytes that are enough for it: 92 for the line of an answer, and those for a machine's lines
 abbrev pub room : ℕ
-room = 2548
+room = 2948

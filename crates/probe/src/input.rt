@@ -30,7 +30,12 @@ enum FirstLine {
 
 // The line of an entry.
 enum EntryLine {
-    Read { task: Task, job: Job, length: usize },
+    Read {
+        task: Task,
+        job: Job,
+        core: u32,
+        length: usize,
+    },
     Bad,
 }
 
@@ -80,10 +85,11 @@ fn zero_entries(count: u32, cores: u32) -> Machine
         table,
         cores,
         jobs: [fresh; MAX_TASKS],
+        assigned: [0; MAX_TASKS],
     }
 }
 
-// A task and its job.
+// A task, its job and its recorded core.
 fn entry_line(text: &[u8]) -> EntryLine
     ensures { λ r. ⌜ r ≡ entryOf (now (text .entry)) ⌝ }
 {
@@ -91,7 +97,7 @@ fn entry_line(text: &[u8]) -> EntryLine
     if text.len() <= length {
         return EntryLine::Bad;
     }
-    let mut numbers = [0u32; 7];
+    let mut numbers = [0u32; 8];
     if !read_numbers(&text[..length], &mut numbers, MAX_DIGITS, MAX_NUMBER) {
         return EntryLine::Bad;
     }
@@ -110,19 +116,21 @@ fn entry_line(text: &[u8]) -> EntryLine
             budget: numbers[5],
             gap: numbers[6],
         },
+        core: numbers[7],
         length: length + 1,
     }
 }
 
-// The machine with another task and job at an index.
-fn with_entry(mut machine: Machine, i: usize, task: Task, job: Job) -> Machine
+// The machine with another task, job and core at an index.
+fn with_entry(mut machine: Machine, i: usize, task: Task, job: Job, core: u32) -> Machine
     requires { ⌜ i < maxTasks ⌝ }
-    ensures { λ r. ⌜ r ≡ withEntry machine i task job ⌝ }
+    ensures { λ r. ⌜ r ≡ withEntry machine i task job core ⌝ }
 {
     let mut table = machine.table;
     table.tasks[i] = task;
     machine.table = table;
     machine.jobs[i] = job;
+    machine.assigned[i] = core;
     machine
 }
 
@@ -150,13 +158,19 @@ fn read_entries(text: &[u8], mut machine: Machine) -> Input
     let mut at: usize = 0;
     let mut i: usize = 0;
     while i < MAX_TASKS {
-        let EntryLine::Read { task, job, length } = entry_line(&text[at..]) else {
+        let EntryLine::Read {
+            task,
+            job,
+            core,
+            length,
+        } = entry_line(&text[at..])
+        else {
             return Input {
                 machine,
                 asked: Asked::Bad(i + 2),
             };
         };
-        machine = with_entry(machine, i, task, job);
+        machine = with_entry(machine, i, task, job, core);
         at += length;
         i += 1;
     }

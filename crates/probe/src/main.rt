@@ -15,12 +15,12 @@ ghost use Rattle.text.specs.Output.{Holds};
 ghost use Rattle.script.specs.Output.{Line};
 ghost use Rattle.probe.specs.Printed.{shown, printed, room};
 
-// More bytes than a good text has: at most 30 of its first line, 68 of each entry's and 38 of the call's, 2,244 in all. What is printed for a longer
+// More bytes than a good text has: at most 30 of its first line, 79 of each entry's and 38 of the call's, 2,596 in all. What is printed for a longer
 // text is what is printed for its first bytes (proofs/Cut.antt).
 const INPUT_ROOM: usize = 4_096;
 
-// In contracts `room`: 44 bytes for the answer, 40 for the line MACHINE, and 77 for each of 32 entries.
-const OUTPUT_ROOM: usize = 2_548;
+// In contracts `room`: 92 bytes for the answer, 40 for the line MACHINE, and 88 for each of 32 entries.
+const OUTPUT_ROOM: usize = 2_948;
 
 // Makes a call: puts its answer and the machine after it.
 fn make(machine: Machine, call: Call, output: &mut [u8]) -> usize

@@ -9,9 +9,9 @@ ghost use Rattle.tasks.specs.Limits.{maxTasks};
 ghost use Rattle.script.specs.Output.{Line};
 ghost use Rattle.probe.specs.Output.{entryLine, entryLines, machineLines, entryRoom, entriesRoom, machineRoom};
 
-// The seven numbers of an entry.
-fn put_entry(output: &mut [u8], used: usize, task: Task, job: Job) -> usize
-    ensures { λ r. ⌜ Line entryRoom (now (output .entry)) used (entryLine task job) (now (output .exit)) r ⌝ }
+// The eight numbers of an entry.
+fn put_entry(output: &mut [u8], used: usize, task: Task, job: Job, core: u32) -> usize
+    ensures { λ r. ⌜ Line entryRoom (now (output .entry)) used (entryLine task job core) (now (output .exit)) r ⌝ }
 {
     let numbers = [
         task.period as u64,
@@ -21,6 +21,7 @@ fn put_entry(output: &mut [u8], used: usize, task: Task, job: Job) -> usize
         job.left as u64,
         job.budget as u64,
         job.gap as u64,
+        core as u64,
     ];
     put_numbers(output, used, &numbers)
 }
@@ -35,7 +36,8 @@ fn put_entries(output: &mut [u8], used: usize, machine: Machine) -> usize
     while i < MAX_TASKS {
         let task = table.tasks[i];
         let job = machine.jobs[i];
-        at = put_entry(output, at, task, job);
+        let core = machine.assigned[i];
+        at = put_entry(output, at, task, job, core);
         i += 1;
     }
     at

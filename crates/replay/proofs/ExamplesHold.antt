@@ -10,7 +10,7 @@ use Rattle.reader.specs.Names.{columnIn, columnsIn, eachNamed, columnsOf, three
 use Rattle.reader.specs.Reading.{refused, threeValues, beginsWithValues, taskOf, ended, valueLines, reading}
 use Rattle.machine.proofs.Computing.{computing}
 use Rattle.script.specs.Calls.{joinOf, callWith, callOf}
-use Rattle.script.specs.Output.{badLine, reportLine, acceptedLine, outcomeLine, answerLine}
+use Rattle.script.specs.Output.{badLine, runnerCores, reportLine, acceptedLine, outcomeLine, answerLine}
 use Rattle.replay.specs.Calls.{callsFrom, callsStart}
 use Rattle.replay.specs.Script.{onCall, answers, printedAfterStart, printedAfterReading, printedFor, printedAfterCores, printedAfterFirst, printed}
 use Rattle.replay.specs.Examples.{exampleScript, exampleOutput}
@@ -23,7 +23,7 @@ unfolding
     isValue columnIn columnsIn eachNamed columnsOf threeNames beginsWithNames
     refused threeValues beginsWithValues taskOf ended isEmpty valueLines reading computing
     joinOf callWith callOf callsFrom callsStart
-    badLine reportLine acceptedLine outcomeLine answerLine onCall answers
+    badLine runnerCores reportLine acceptedLine outcomeLine answerLine onCall answers
     printedAfterStart printedAfterReading printedFor printedAfterCores printedAfterFirst printed
     exampleScript exampleOutput
 example-holds = refl

@@ -9,6 +9,7 @@ use lib.ListN.{length, take, length-append}
 use lib.Seq.{length-take-le}
 use Rattle.laws.proofs.Parts.{past, from-length, empty}
 use Rattle.text.specs.Lines.{lineEnd, has, before, lines, unended, isEmpty}
+use Rattle.text.specs.Output.{Put}
 use Rattle.text.proofs.Split.{cut, hasnt-of}
 use Rattle.text.proofs.LineLaws.{lines-more, lines-none, unended-more, unended-all, some-bytes}
 use Rattle.text.proofs.Putting.{Partly, partly-none, partly-more, partly-last, partly-all}
@@ -17,8 +18,9 @@ use Rattle.machine.specs.declared.machine.Machine.{Machine}
 use Rattle.machine.specs.declared.call.Call.{Call}
 use Rattle.script.specs.declared.calls.CallLine.the-variants.{Read, Bad}
 use Rattle.script.specs.Calls.{callOf}
-use Rattle.script.specs.Output.{Line, badLine, answerLine, refusalRoom, answerRoom}
+use Rattle.script.specs.Output.{Line, badLine, answerLine, refusalRoom}
 use Rattle.script.proofs.CallLaws.{call-long}
+use Rattle.script.proofs.FewBytes.{few-bytes}
 use Rattle.replay.specs.Script.{onCall, answers, callRoom}
 
 -- the answers to the calls of a text
@@ -68,13 +70,13 @@ module _ (a whole b : List ℕ) (v : ℕ) (m : Machine) (n : ℕ) (s : List ℕ)
     next = let d = cut lineEnd s k e h in rw (lines-more s (d .is), unended-more s (d .is), ← d .front, r, d .rest)
 
     pub play-more :
-        (c : List ℕ) (w : ℕ) → Line answerRoom b v (answerLine call (step m call)) c w
+        (c : List ℕ) (w : ℕ) → Put b v (answerLine call (step m call)) c w
         → Playing a whole c w (step m call .machine) (n + 1) (past s k) most
     play-more c w g =
         let rest = answered (step m call .machine) (n + 1) (past s k) in
         let lengths = ap length next ∙ length-append (answerLine call (step m call)) rest in
         let five = call-long (take k s) call r in
         record {
-          left = partly-more a 0 whole b v _ _ (rw next at (p .left)) c w (g .put);
-          few = omega (arith, p .few, g .few, lengths, five, length-take-le k s (omega arith), from-length s (k + 1));
+          left = partly-more a 0 whole b v _ _ (rw next at (p .left)) c w g;
+          few = omega (arith, p .few, few-bytes m call, lengths, five, length-take-le k s (omega arith), from-length s (k + 1));
         }

@@ -75,10 +75,10 @@ printed s =
     (cond (has lineEnd s) (printedAfterFirst (numberAfter maxDigits maxNumber coresWord (before lineEnd s)) (after lineEnd s)) (badLine 1))
 
 -- bytes of the output that are enough for each byte of the calls: the line of a call has at least 6 bytes, its word and byte 10, and its answer's at
--- most 44
+-- most 92
 abbrev pub callRoom : ℕ
-callRoom = 8
+callRoom = 16
 
--- the room that an array needs for it: 8 bytes for each byte of a script, and 32 more
+-- the room that an array needs for it: 16 bytes for each byte of a script, and 32 more
 abbrev pub room : ℕ
-room = 524320
+room = 1048608

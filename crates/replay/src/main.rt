@@ -30,7 +30,7 @@ const MAX_SCRIPT_LENGTH: usize = 65_536;
 const INPUT_ROOM: usize = 65_537;
 
 // In contracts `room`.
-const OUTPUT_ROOM: usize = 524_320;
+const OUTPUT_ROOM: usize = 1_048_608;
 
 // Puts the answers to the calls of a text, the first of which is on the line `first` of the script.
 fn play(text: &[u8], mut machine: Machine, first: usize, output: &mut [u8]) -> usize

@@ -1,16 +1,14 @@
--- The lines of the output: how long they are, and what they are put together from. Others cite `refused-put`, `bad-put`, `done-line` with
--- `done-put`, and `report-few`, for one kind of line each, and `line-all`.
+-- The lines of the output but for a report: how long they are, and what they are put together from. Others cite `refused-few`, `refused-put`, `bad-put` and
+-- `done-line`, for one kind of line each, and `line-all`.
 use Prim.Native.Nat.{ℕ, _^_, _≤_, _<_}
 use native.Mathlib.Omega.{arith}
 use mathlib.Core.Path.{_≡_, refl}
 use mathlib.Core.Logic.{⊎-elim}
-use mathlib.Core.Bool.{Bool}
 use mathlib.Core.List.{List, [], _∷_, _++_}
 use lib.ListN.{length, length-append}
 use types.Run.{OneOf}
 use denote.Enum.Declared.{tagOf}
 use Rattle.text.specs.Lines.{lineEnd}
-use Rattle.text.specs.Number.{decimalText}
 use Rattle.text.specs.Output.{Put, Holds, furtherNumbers, numbersLine, refusedLine}
 use Rattle.text.proofs.DigitLaws.{text-few}
 use Rattle.text.proofs.Putting.{put-then, put-all}
@@ -18,19 +16,20 @@ use Rattle.machine.specs.declared.call.Call.{Call}
 use Rattle.machine.proofs.call.Call.{the-type}
 use Rattle.machine.specs.declared.call.Call.the-variants.{Release, Finish, Slot, Join}
 use Rattle.machine.specs.declared.answer.Report.{Report}
-use Rattle.machine.specs.Mask.{mask}
-use Rattle.machine.proofs.MaskTurn.{mask-below}
 use Rattle.script.specs.Words.{doneWord, badLineWord}
-use Rattle.script.specs.Output.{Line, badLine, reportLine, acceptedLine, refusalRoom, answerRoom}
+use Rattle.script.specs.Output.{Line, badLine, acceptedLine, refusalRoom}
 
 -- a text that was put at the start of an array which has room for it
 pub line-all : (most : ℕ) (a b s : List ℕ) (r : ℕ) → most ≤ length a → Line most a 0 s b r → Holds s b r
 line-all most a b s r h l = put-all a s b r (l .put) (omega (arith, l .few))
 
--- a refusal's number has at most ten digits, and its line room wherever a line of answers has
-pub refused-put : (most : ℕ) → refusalRoom ≤ most → (a b : List ℕ) (n u r : ℕ) → n < 2 ^ 32 → Put a u (refusedLine n) b r → Line most a u (refusedLine n) b r
+-- a refusal's number has at most ten digits
+pub refused-few : (n : ℕ) → n < 2 ^ 32 → length (refusedLine n) ≤ refusalRoom
 unfolding refusedLine numbersLine furtherNumbers
-refused-put most m a b n u r h p = record { put = p; few = simp length-append (omega (arith, text-few 9 n (omega arith))) }
+refused-few n h = simp length-append (omega (arith, text-few 9 n (omega arith)))
+
+pub refused-put : (most : ℕ) → refusalRoom ≤ most → (a b : List ℕ) (n u r : ℕ) → n < 2 ^ 32 → Put a u (refusedLine n) b r → Line most a u (refusedLine n) b r
+refused-put most m a b n u r h p = record { put = p; few = omega (arith, refused-few n h) }
 
 pub bad-put :
     (a b c : List ℕ) (n u v w : ℕ) → n < 2 ^ 64 → Put a u badLineWord b v → Put b v (numbersLine (n ∷ [])) c w → Line refusalRoom a u (badLine n) c w
@@ -45,17 +44,3 @@ done-line (Release i) r h = refl
 done-line (Finish i) r h = refl
 done-line (Slot k) r h = absurd (⊎-elim (λ e. omega (arith, e)) (λ h. ⊎-elim (λ e. omega (arith, e)) (λ e. omega (arith, e)) h) h)
 done-line (Join t) r h = refl
-
-pub done-put : (a b : List ℕ) (u r : ℕ) → Put a u (doneWord ++ lineEnd ∷ []) b r → Line answerRoom a u (doneWord ++ lineEnd ∷ []) b r
-done-put a b u r p = record { put = p; few = omega arith }
-
--- a mask of 32 tasks has 32 bits, and so at most ten digits
-mask-few : (named : List Bool) → length named ≡ 32 → length (decimalText (mask named)) ≤ 10
-mask-few named l = let h : mask named < 2 ^ 32 = rw l at (mask-below named) in text-few 9 (mask named) (omega arith)
-
-pub report-few :
-    (r : Report) → length (r .ran) ≡ 32 → length (r .finished) ≡ 32 → length (r .late) ≡ 32 → r .runners < 2 ^ 32 → length (reportLine r) ≤ answerRoom
-unfolding reportLine numbersLine furtherNumbers
-report-few r a b c h =
-    simp length-append
-    (omega (arith, mask-few (r .ran) a, mask-few (r .finished) b, mask-few (r .late) c, text-few 9 (r .runners) (omega arith)))

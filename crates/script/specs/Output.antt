@@ -1,9 +1,11 @@
 -- What is printed for a call (docs/HANDBOOK.md, "Replaying calls"): "Output, one line per call, each ended by byte 10".
-use Prim.Native.Nat.{ℕ, _≤_}
+use Prim.Native.Nat.{ℕ, zero, suc, _≤_}
+use mathlib.Core.Bool.{Bool, false, cond}
 use mathlib.Core.List.{List, [], _∷_, _++_}
-use lib.ListN.{length}
+use lib.ListN.{length, getD}
 use Rattle.text.specs.Lines.{lineEnd}
 use Rattle.text.specs.Output.{Put, numbersLine, refusedLine}
+use Rattle.tasks.specs.Limits.{maxTasks}
 use Rattle.tasks.specs.declared.outcome.Outcome.{Outcome}
 use Rattle.tasks.specs.declared.outcome.Outcome.the-variants.{Done, Refused}
 use Rattle.machine.specs.declared.call.Call.{Call}
@@ -17,9 +19,15 @@ use Rattle.script.specs.Words.{doneWord, badLineWord}
 unfoldable pub badLine : ℕ → List ℕ
 badLine n = badLineWord ++ numbersLine (n ∷ [])
 
--- "`RAN FINISHED LATE RUNNERS` as four numbers .. (the first three as sums of 2 to the power task number − 1)"
+-- "for each runner in rising task number .. its core": those of the runners among the first n tasks
+unfoldable pub runnerCores : (ran : List Bool) → (assigned : List ℕ) → (n : ℕ) → List ℕ
+runnerCores ran assigned zero = []
+runnerCores ran assigned (suc n) = runnerCores ran assigned n ++ cond (getD ran n false) (getD assigned n 0 ∷ []) []
+
+-- "`RAN FINISHED LATE RUNNERS` as four numbers .. (the first three as sums of 2 to the power task number − 1), and after them" the cores
 unfoldable pub reportLine : Report → List ℕ
-reportLine r = numbersLine (mask (r .ran) ∷ mask (r .finished) ∷ mask (r .late) ∷ r .runners ∷ [])
+reportLine r =
+    numbersLine (mask (r .ran) ∷ mask (r .finished) ∷ mask (r .late) ∷ r .runners ∷ runnerCores (r .ran) (r .assigned) maxTasks)
 
 -- "`DONE` for an accepted release, finish or join", and the report "for an accepted slot"
 unfoldable pub acceptedLine : Call → Report → List ℕ
@@ -41,9 +49,9 @@ answerLine call a = outcomeLine (a .outcome) call (a .report)
 abbrev pub refusalRoom : ℕ
 refusalRoom = 32
 
--- bytes that are enough for the line of an answer: four numbers of ten digits, and a byte after each
+-- bytes that are enough for the line of an answer of the machine: four numbers of ten digits, 16 cores of two, and a byte after each
 abbrev pub answerRoom : ℕ
-answerRoom = 44
+answerRoom = 92
 
 -- a text of at most so many bytes was put after the first `used` bytes of an array
 pub record Line (most : ℕ) (before : List ℕ) (used : ℕ) (text after : List ℕ) (r : ℕ) : Type 0 where

@@ -3,11 +3,14 @@ use machine::answer::Answer;
 use machine::answer::Report;
 use machine::answer::mask;
 use machine::call::Call;
+use tasks::limits::MAX_TASKS;
 use tasks::outcome::Outcome;
 use text::output::put;
 use text::output::put_numbers;
 use text::output::put_refused;
-ghost use Rattle.script.specs.Output.{Line, badLine, reportLine, answerLine, refusalRoom, answerRoom};
+ghost use mathlib.Core.Path.{_≡_};
+ghost use Rattle.text.specs.Output.{Put};
+ghost use Rattle.script.specs.Output.{Line, badLine, reportLine, answerLine, refusalRoom};
 
 // The line for a line of the script that is not what it must be.
 pub fn put_bad_line(output: &mut [u8], used: usize, line: usize) -> usize
@@ -18,20 +21,41 @@ pub fn put_bad_line(output: &mut [u8], used: usize, line: usize) -> usize
     put_numbers(output, at, &numbers)
 }
 
-// The tasks that ran, finished and were late in a slot, and the number of runners.
+// A core as one of the numbers of a line.
+fn wide(core: u32) -> u64
+    ensures { λ r. ⌜ r ≡ core ⌝ }
+{
+    core as u64
+}
+
+// The tasks that ran, finished and were late in a slot, the number of runners, and the core of each runner.
 fn put_report(output: &mut [u8], used: usize, report: Report) -> usize
-    ensures { λ r. ⌜ Line answerRoom (now (output .entry)) used (reportLine report) (now (output .exit)) r ⌝ }
+    ensures { λ r. ⌜ Put (now (output .entry)) used (reportLine report) (now (output .exit)) r ⌝ }
 {
     let ran = report.ran;
     let finished = report.finished;
     let late = report.late;
-    let numbers = [mask(ran), mask(finished), mask(late), report.runners as u64];
-    put_numbers(output, used, &numbers)
+    let assigned = report.assigned;
+    let mut numbers = [0u64; 4 + MAX_TASKS];
+    numbers[0] = mask(ran);
+    numbers[1] = mask(finished);
+    numbers[2] = mask(late);
+    numbers[3] = report.runners as u64;
+    let mut n: usize = 4;
+    let mut i: usize = 0;
+    while i < MAX_TASKS {
+        if ran[i] {
+            numbers[n] = wide(assigned[i]);
+            n += 1;
+        }
+        i += 1;
+    }
+    put_numbers(output, used, &numbers[..n])
 }
 
 // The line of a call's answer.
 pub fn put_answer(output: &mut [u8], used: usize, call: Call, answer: Answer) -> usize
-    ensures { λ r. ⌜ Line answerRoom (now (output .entry)) used (answerLine call answer) (now (output .exit)) r ⌝ }
+    ensures { λ r. ⌜ Put (now (output .entry)) used (answerLine call answer) (now (output .exit)) r ⌝ }
 {
     let outcome = answer.outcome;
     if let Outcome::Refused { number, place: _ } = outcome {

@@ -1,5 +1,5 @@
--- What it takes for a table and a number of cores to pass `checked`: `passes`, and the fields of `Passes`. Of those that do not, none is refused by
--- number 0: `checked-not-0`.
+-- What it takes for a table and a number of cores to pass `checked`: `passes`, and the fields of `Passes`. The refusals of those that do not have
+-- numbers of 1 or 2 digits, and none is number 0: `checked-numbered`.
 use Prim.Native.Nat.{ℕ, zero, suc, _+_, _≤_, _<_}
 use native.Mathlib.Omega.{arith}
 use mathlib.Core.Path.{_≡_}
@@ -19,7 +19,7 @@ use Rattle.tasks.specs.declared.task.Task.{Task}
 use Rattle.tasks.specs.declared.table.Table.{Table}
 use Rattle.tasks.specs.declared.outcome.Outcome.{Outcome}
 use Rattle.tasks.specs.declared.outcome.Outcome.the-variants.{Done, Refused}
-use Rattle.tasks.proofs.OutcomeLaws.{past-test, Not0, done-not-0, refused-not-0}
+use Rattle.tasks.proofs.OutcomeLaws.{past-test, Numbered, done-numbered, refused-numbered}
 
 pub record Passes (t : Table) (m : ℕ) : Type 0 where
   pub count-some : 1 ≤ t .count
@@ -57,14 +57,15 @@ passes t m =
       cores-fit = leb-true _ _ (and-right (leb 1 m) _ fit);
     }
 
--- past a test that refuses by another number
-other-test : (test : Bool) (number place : ℕ) {o : Outcome} → 0 < number → Not0 o → Not0 (cond test (Refused number place) o)
-other-test test number place some rest = by-cond Not0 test (λ yes. refused-not-0 number place some) (λ no. rest)
+-- past a test that refuses by such a number
+other-test :
+    (test : Bool) (number place : ℕ) {o : Outcome} → (0 < number) × (number < 100) → Numbered o → Numbered (cond test (Refused number place) o)
+other-test test number place h rest = by-cond Numbered test (λ yes. refused-numbered number place h) (λ no. rest)
 
-pub checked-not-0 : (t : Table) (m : ℕ) → Not0 (checked t m)
+pub checked-numbered : (t : Table) (m : ℕ) → Numbered (checked t m)
 unfolding checked
-checked-not-0 t m =
+checked-numbered t m =
     let place = firstOutOfRange (t .tasks) 0 (t .count) in
     other-test (ltb maxTasks (t .count)) tooManyTasks (maxTasks + 1) (omega arith)
     (other-test (eqb (t .count) 0) noTask 0 (omega arith)
-    (other-test (not (eqb place 0)) taskOutOfRange place (omega arith) (other-test (not (coresInRange m)) coresOutOfRange 0 (omega arith) done-not-0)))
+    (other-test (not (eqb place 0)) taskOutOfRange place (omega arith) (other-test (not (coresInRange m)) coresOutOfRange 0 (omega arith) done-numbered)))

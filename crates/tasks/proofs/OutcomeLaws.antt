@@ -1,10 +1,11 @@
 -- What an outcome says where the call was carried out: `is-done`, and `past-test`, that no test refused it. Of one that is not
--- number 0, `Not0`: `done-not-0`, `refused-not-0` and `number-some`. `by-outcome` goes by the outcome.
+-- number 0, `Not0`: `done-not-0` and `refused-not-0`. Of the numbers that refusals have, `Numbered`: `done-numbered` and `refused-numbered`. `by-outcome` goes
+-- by the outcome.
 use Prim.Native.Nat.{ℕ, _<_}
 use native.Mathlib.Omega.{arith}
 use mathlib.Core.Path.{_≡_, refl}
 use mathlib.Core.Bool.{Bool, true, false, cond}
-use Rattle.laws.proofs.CaseSplits.{by-order, not-both, by-cond, clash}
+use Rattle.laws.proofs.CaseSplits.{not-both, by-cond, clash}
 use Rattle.tasks.specs.declared.outcome.Outcome.{Outcome}
 use Rattle.tasks.specs.declared.outcome.Outcome.the-variants.{Done, Refused}
 use Rattle.tasks.specs.Outcome.{isDone}
@@ -33,6 +34,12 @@ done-not-0 = record { other = λ place e. clash cc }
 pub refused-not-0 : (number place : ℕ) → 0 < number → Not0 (Refused number place)
 refused-not-0 number place some = record { other = λ at e. let zero : number ≡ 0 = cc in omega arith }
 
--- the other way round
-pub number-some : (number place : ℕ) → Not0 (Refused number place) → 0 < number
-number-some number place told = by-order number 0 (λ none. let zero : number ≡ 0 = omega arith in absurd (told .other place (rw zero))) (λ some. some)
+-- if it is a refusal, its number is not 0 and has at most two digits
+pub record Numbered (o : Outcome) : Type 0 where
+  pub number-is : (number place : ℕ) → o ≡ Refused number place → (0 < number) × (number < 100)
+
+pub done-numbered : Numbered Done
+done-numbered = record { number-is = λ number place e. clash cc }
+
+pub refused-numbered : (number place : ℕ) → (0 < number) × (number < 100) → Numbered (Refused number place)
+refused-numbered number place h = record { number-is = λ n p e. let same : number ≡ n = cc in rw (← same) h }

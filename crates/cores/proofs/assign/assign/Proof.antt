@@ -1,7 +1,7 @@
 -- `assign` meets its contract. The invariant: the first n runners have their cores.
 use Prim.Native.Nat.{ℕ, _-_, _≤_}
 use native.Mathlib.Omega.{arith}
-use mathlib.Core.Path.{_≡_, sym, ap, _∙_}
+use mathlib.Core.Path.{_≡_, refl, sym, ap, _∙_}
 use mathlib.Core.List.{List, []}
 use lib.ListN.{length, drop}
 use lib.Seq.{drop-length}
@@ -18,19 +18,22 @@ Inv-loop runners available cores₀ used₀ n₀ cores used n = (n ≤ length ru
 abbrev μ-loop : tie.MeasureT-loop
 μ-loop runners available cores₀ used₀ n₀ cores used n = length runners - n
 
+keep-requires : tie.Need-keep-requires Inv-loop μ-loop
+keep-requires c κs = (refl, refl)
+
 loop-holds : tie.Need-loop-holds Inv-loop μ-loop
 loop-holds c =
-    let k = c .before .before .kept .ensures in
+    let k = c .before .before .keep .ensures in
     (omega arith, taking-none _ _ _ _ (rw (k .are) (length-kept _ _ _)) (k .flagged))
 
 mul-i : tie.Need-mul-i Inv-loop μ-loop
-mul-i c = omega (arith, c .loop-test .taken, c .before .before .before .before .before .before .good)
+mul-i c = omega (arith, c .loop-test .taken, c .before .before .before .before .before .before .before .before .good)
 
 -- the core found is the lowest that no task has
 is-lowest :
     (c : tie.After-first-unused Inv-loop μ-loop)
     → let l = c .before .before .before .before .before in
-    c .first-unused .result ≡ firstUnused (isAmong (l .loop .cores)) 1 (l .before .before .before .before .before .args .available)
+    c .first-unused .result ≡ firstUnused (isAmong (l .loop .cores)) 1 (l .before .before .before .before .before .before .before .args .available)
 is-lowest c =
     let t = c .before .before .before .before in
     c .first-unused .ensures
@@ -69,11 +72,11 @@ returns : tie.Need-returns Inv-loop μ-loop
 unfolding assignment taken
 returns c =
     let l = c .before in
-    let a = l .before .before .before .before .before .args in
+    let a = l .before .before .before .before .before .before .before .args in
     let runners = a .runners .now in
     let e : l .loop .n ≡ length runners = omega arith in
     let done : drop (l .loop .n) runners ≡ [] = rw e (drop-length runners) in
-    let k = l .before .before .before .kept .ensures .are in
+    let k = l .before .before .before .keep .ensures .are in
     sym (ap (taken (a .available) runners) (sym k) ∙ l .loop .inv .1 .left ∙ ap (λ (more : List ℕ). taken (a .available) more (l .loop .cores)) done)
 
 pub assign-spec : {M : Type 1} → statement M
@@ -82,7 +85,9 @@ assign-spec =
     (tie.spec
     Inv-loop
     μ-loop
-    (λ c κs. search needs)
+    (λ c. search needs)
+    (λ c. search needs)
+    keep-requires
     loop-holds
     mul-i
     (λ c. search needs)

@@ -27,8 +27,8 @@ sub-entry-line c = c .before .loop .inv .within
 part-entry-line-start : tie.Need-part-entry-line-start Inv-loop μ-loop
 part-entry-line-start c = c .before .loop .inv .within
 
-add-t15 : tie.Need-add-t15 Inv-loop μ-loop
-add-t15 c = omega (arith, c .before .before .before .before .before .loop .inv .few)
+add-t16 : tie.Need-add-t16 Inv-loop μ-loop
+add-t16 c = omega (arith, c .before .before .before .before .before .loop .inv .few)
 
 returns : tie.Need-returns Inv-loop μ-loop
 returns c =
@@ -46,12 +46,12 @@ at-loop c = in-loop c .before
 entry-is :
     (c : tie.After-task Inv-loop μ-loop)
     → let l = at-loop c in
-    entryOf (from (l .before .before .args .text .now) (l .loop .at)) ≡ Read (c .task .given .0 .0) (c .task .given .0 .1 .0) (c .task .given .0 .1 .1 .0)
+    entryOf (from (l .before .before .args .text .now) (l .loop .at)) ≡ Read (c .task .given .0 .0) (c .task .given .0 .1 .0) (c .task .given .0 .1 .1 .0) (c .task .given .0 .1 .1 .1 .0)
 entry-is c = sym (c .before .before .entry-line .ensures) ∙ c .task .given .1
 
 entry-fits :
-    (c : tie.After-task Inv-loop μ-loop) → let l = at-loop c in l .loop .at + c .task .given .0 .1 .1 .0 ≤ length (l .before .before .args .text .now)
-entry-fits c = fits _ _ _ _ _ (at-loop c .loop .inv) (in-loop c .loop-test .taken) _ _ _ (entry-is c)
+    (c : tie.After-task Inv-loop μ-loop) → let l = at-loop c in l .loop .at + c .task .given .0 .1 .1 .1 .0 ≤ length (l .before .before .args .text .now)
+entry-fits c = fits _ _ _ _ _ (at-loop c .loop .inv) (in-loop c .loop-test .taken) _ _ _ _ (entry-is c)
 
 with-entry-requires : tie.Need-with-entry-requires Inv-loop μ-loop
 with-entry-requires c κs = c .before .before .before .before .before .loop-test .taken
@@ -69,7 +69,7 @@ loop-again : tie.Need-loop-again Inv-loop μ-loop
 loop-again c =
     let k = c .before .before in
     let t = at-loop k in
-    rw (c .with-entry .ensures) (fill-more _ _ _ _ _ (t .loop .inv) (in-loop k .loop-test .taken) _ _ _ (entry-is k))
+    rw (c .with-entry .ensures) (fill-more _ _ _ _ _ (t .loop .inv) (in-loop k .loop-test .taken) _ _ _ _ (entry-is k))
 
 sub-last-line : tie.Need-sub-last-line Inv-loop μ-loop
 sub-last-line c = c .before .loop .inv .within
@@ -95,7 +95,7 @@ read-entries-spec =
     (λ c κs. search needs)
     (λ c. search needs)
     (λ c. search needs)
-    add-t15
+    add-t16
     returns
     with-entry-requires
     add-at

@@ -6,7 +6,7 @@ use Rattle.text.proofs.Putting.{put-size}
 use Rattle.tasks.specs.Limits.{maxTasks}
 use Rattle.tasks.specs.Table.{zeroTask}
 use Rattle.job.specs.Job.{freshJob}
-use Rattle.machine.specs.Machine.{taskAt, jobAt}
+use Rattle.machine.specs.Machine.{taskAt, jobAt, coreAt}
 use Rattle.probe.proofs.Showing.{Showing, show-none, show-more, show-all}
 use Rattle.probe.proofs.output.put_entries.Statement.{statement}
 use Rattle.probe.proofs.output.put_entries.Tie as tie
@@ -21,10 +21,10 @@ loop-holds : tie.Need-loop-holds Inv-loop μ-loop
 loop-holds c = show-none _ _ _
 
 loop-again : tie.Need-loop-again Inv-loop μ-loop
-unfolding taskAt jobAt zeroTask freshJob
+unfolding taskAt jobAt coreAt zeroTask freshJob
 loop-again c =
     let p = c .before .before in
-    let t = p .before .before .before .before in
+    let t = p .before .before .before .before .before in
     show-more _ _ _ _ _ _ (t .before .loop .inv) (t .loop-test .taken) _ _ (p .put-entry .ensures)
 
 same-length : tie.Need-same-length Inv-loop μ-loop
@@ -40,6 +40,8 @@ put-entries-spec =
     Inv-loop
     μ-loop
     loop-holds
+    (λ c. search needs)
+    (λ c. search needs)
     (λ c. search needs)
     (λ c. search needs)
     (λ c. search needs)

@@ -1,4 +1,4 @@
--- `put_entry` meets its contract: its seven numbers are those of the line.
+-- `put_entry` meets its contract: its eight numbers are those of the line.
 use Prim.Native.Nat.{_≤_}
 use borrow.Author.Needs.{needs}
 use lib.ListN.{length}
@@ -8,8 +8,8 @@ use Rattle.probe.proofs.Showing.{entry-few}
 use Rattle.probe.proofs.output.put_entry.Statement.{statement}
 use Rattle.probe.proofs.output.put_entry.Tie as tie
 
-few : (c : tie.Start) → length (entryLine (c .args .task) (c .args .job)) ≤ entryRoom
-few c = entry-few (c .args .task) (c .args .job) (search needs) (search needs) (search needs) (search needs) (search needs) (search needs)
+few : (c : tie.Start) → length (entryLine (c .args .task) (c .args .job) (c .args .core)) ≤ entryRoom
+few c = entry-few (c .args .task) (c .args .job) (c .args .core) (search needs) (search needs) (search needs) (search needs) (search needs) (search needs) (search needs)
 
 returns : tie.Need-returns
 unfolding entryLine

@@ -1,7 +1,6 @@
 -- `put_answer` meets its contract: by the outcome, and then by the call.
-use native.Mathlib.Omega.{arith}
-use Rattle.script.specs.Output.{acceptedLine, outcomeLine, answerLine, answerRoom}
-use Rattle.script.proofs.OutputLaws.{refused-put, done-line, done-put}
+use Rattle.script.specs.Output.{acceptedLine, outcomeLine, answerLine}
+use Rattle.script.proofs.OutputLaws.{done-line}
 use borrow.Author.Needs.{needs}
 use Rattle.script.proofs.output.put_answer.Statement.{statement}
 use Rattle.script.proofs.output.put_answer.Tie as tie
@@ -10,14 +9,14 @@ returns : tie.Need-returns
 unfolding answerLine outcomeLine
 returns c =
     let p = c .before .before in
-    rw (p .before .before .before .outcome .given .1) (refused-put answerRoom (omega arith) _ _ _ _ _ (search needs) (p .put-refused .ensures))
+    rw (p .before .before .before .outcome .given .1) (p .put-refused .ensures)
 
 returns-2 : tie.Need-returns-2
 unfolding answerLine outcomeLine acceptedLine
 returns-2 c =
     let p = c .before .before in
     let m = p .before .before .before in
-    rw (m .before .enum-told .given .1, done-line _ _ (m .match2 .keys2)) (done-put _ _ _ _ (p .put .ensures))
+    rw (m .before .enum-told .given .1, done-line _ _ (m .match2 .keys2)) (p .put .ensures)
 
 returns-3 : tie.Need-returns-3
 unfolding answerLine outcomeLine acceptedLine

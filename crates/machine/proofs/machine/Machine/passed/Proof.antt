@@ -12,13 +12,13 @@ use Rattle.machine.proofs.machine.Machine.passed.Statement.{statement}
 use Rattle.machine.proofs.machine.Machine.passed.Tie as tie
 
 abbrev Inv-loop : tie.InvT-loop
-Inv-loop runners self₀ ran count finished₀ late₀ i₀ self finished late i = (i ≤ count) × Turned self₀ ran self finished late i
+Inv-loop runners self₀ ran assigned count finished₀ late₀ i₀ self finished late i = (i ≤ count) × Turned self₀ ran assigned self finished late i
 
 abbrev μ-loop : tie.MeasureT-loop
-μ-loop runners self₀ ran count finished₀ late₀ i₀ self finished late i = count - i
+μ-loop runners self₀ ran assigned count finished₀ late₀ i₀ self finished late i = count - i
 
 loop-holds : tie.Need-loop-holds Inv-loop μ-loop
-loop-holds c = (omega arith, turned-none _ _)
+loop-holds c = (omega arith, turned-none _ _ _)
 
 loop-again : tie.Need-loop-again Inv-loop μ-loop
 unfolding freshJob
@@ -29,14 +29,14 @@ loop-again c =
     a .aged .ensures ∙ ap aged (a .before .charged .ensures)
     in (
       omega arith,
-      rw (c .settled .ensures, c .before .before .is-finished .ensures, c .before .is-late .ensures) (turned-more _ _ _ _ _ _ (l .loop .inv .1) (a .aged .result) e),
+      rw (c .settled .ensures, c .before .before .is-finished .ensures, c .before .is-late .ensures) (turned-more _ _ _ _ _ _ _ (l .loop .inv .1) (a .aged .result) e),
     )
 
 returns : tie.Need-returns Inv-loop μ-loop
 returns c =
     let s = c .before .before in
     let e : c .before .loop .i ≡ s .args .t1 .table .count = omega arith in
-    turned-all _ _ _ _ _ _ (rw e at (c .before .loop .inv .1)) (s .pre .1)
+    turned-all _ _ _ _ _ _ _ (rw e at (c .before .loop .inv .1)) (s .pre .1)
 
 pub passed-spec : {M : Type 1} → statement M
 passed-spec =
@@ -55,6 +55,10 @@ passed-spec =
     (λ c κs. search needs)
     (λ c. omega arith)
     (λ c κs. search needs)
+    (λ c. omega arith)
+    (λ c. omega arith)
+    (λ c. omega arith)
+    (λ c. omega arith)
     (λ c. omega arith)
     (λ c. omega arith)
     (λ c. omega arith)

@@ -1,14 +1,18 @@
 -- `Machine::pick` meets its contract. The invariant: the picks so far, and the ranks of the tasks that still wait.
-use Prim.Native.Nat.{suc, _-_, _≤_, _<_}
+use Prim.Native.Nat.{ℕ, suc, _-_, _≤_, _<_}
 use native.Mathlib.Numerals.{add-one}
 use native.Mathlib.Omega.{arith}
 use mathlib.Core.Path.{_≡_, refl, sym, ap, _∙_}
 use borrow.Author.Needs.{needs}
-use lib.ListN.{length, take}
-use lib.Seq.{length-take-le}
+use lib.ListN.{length, take, length-set}
+use lib.Seq.{length-take-le, take-suc-set}
+use Rattle.edzl.proofs.SumLaws.{count-bound}
 use Rattle.tasks.specs.Limits.{maxTasks}
+use Rattle.machine.specs.Machine.{jobAt}
+use Rattle.job.specs.Search.{nextRunner}
 use Rattle.job.proofs.Next.{Found}
-use Rattle.machine.specs.Pick.{candidates, withPicked, pick}
+use Rattle.machine.specs.Pick.{openCount, candidates, withPicked, pick}
+use Rattle.machine.specs.Cores.{runnerOrder}
 use Rattle.machine.specs.Ranks.{ranks}
 use Rattle.machine.proofs.SoundLaws.{sound-passes}
 use Rattle.machine.proofs.PickLaws.{length-pick, next-in}
@@ -17,47 +21,51 @@ use Rattle.machine.proofs.machine.Machine.pick.Statement.{statement}
 use Rattle.machine.proofs.machine.Machine.pick.Tie as tie
 
 abbrev Inv-loop : tie.InvT-loop
-Inv-loop self wanted waiting₀ picked₀ found₀ waiting picked found =
-    (found ≤ wanted) × (picked ≡ pick self found) × (waiting ≡ ranks self (pick self found))
+Inv-loop self wanted order₀ waiting₀ ran₀ found₀ order waiting ran found =
+    (found ≤ wanted)
+    × (ran ≡ pick self found)
+    × (waiting ≡ ranks self (pick self found))
+    × (length order ≡ maxTasks)
+    × (take found order ≡ runnerOrder self found)
 
 abbrev μ-loop : tie.MeasureT-loop
-μ-loop self wanted waiting₀ picked₀ found₀ waiting picked found = wanted - found
+μ-loop self wanted order₀ waiting₀ ran₀ found₀ order waiting ran found = wanted - found
 
 fits : (c : tie.Start Inv-loop μ-loop) → c .args .self .table .count ≤ maxTasks
 fits c = sound-passes (c .args .self) (c .pre .0) .count-fits
 
 -- every task has its rank
-has-all : (c : tie.At-loop Inv-loop μ-loop) → c .before .args .self .table .count ≤ length (c .loop .waiting)
+has-all : (c : tie.At-loop Inv-loop μ-loop) → c .before .before .args .self .table .count ≤ length (c .loop .waiting)
 has-all c =
-    let m = c .before .args .self in
-    omega (arith, fits (c .before), ap length (c .loop .inv .2), length-ranks m (pick m (c .loop .found)))
+    let m = c .before .before .args .self in
+    omega (arith, fits (c .before .before), ap length (c .loop .inv .2), length-ranks m (pick m (c .loop .found)))
 
 -- the next runner of the picks so far
-runner : (c : tie.In-loop Inv-loop μ-loop) → let m = c .before .before .args .self in Found (candidates m (pick m (c .before .loop .found)))
+runner : (c : tie.In-loop Inv-loop μ-loop) → let m = c .before .before .before .args .self in Found (candidates m (pick m (c .before .loop .found)))
 runner c =
     let l = c .before in
-    next-in (l .before .args .self) (fits (l .before)) (l .loop .found) (omega arith)
+    next-in (l .before .before .args .self) (fits (l .before .before)) (l .loop .found) (omega arith)
 
 -- the number found is that of the next runner
 is-next : (c : tie.After-next-runner Inv-loop μ-loop) → c .next-runner .result ≡ suc (runner (c .before .before) .index)
 is-next c =
     let l = c .before .before .before in
-    let m = l .before .args .self in
+    let m = l .before .before .args .self in
     c .next-runner .ensures
-    ∙ ranked-runner _ m (pick m (l .loop .found)) (l .before .pre .0) (ap (take (m .table .count)) (l .loop .inv .2))
+    ∙ ranked-runner _ m (pick m (l .loop .found)) (l .before .before .pre .0) (ap (take (m .table .count)) (l .loop .inv .2))
     ∙ runner (c .before .before) .number-is
 
 -- as an index
 at-index : (c : tie.After-next-runner Inv-loop μ-loop) → c .next-runner .result - 1 ≡ runner (c .before .before) .index
 at-index c = omega (arith, is-next c)
 
-inside : (c : tie.After-next-runner Inv-loop μ-loop) → c .next-runner .result - 1 < c .before .before .before .before .args .self .table .count
+inside : (c : tie.After-next-runner Inv-loop μ-loop) → c .next-runner .result - 1 < c .before .before .before .before .before .args .self .table .count
 unfolding candidates
 inside c = rw (at-index c) (runner (c .before .before) .next .inside)
 
 loop-holds : tie.Need-loop-holds Inv-loop μ-loop
-unfolding pick
-loop-holds c = (omega arith, refl, c .pre .1)
+unfolding pick runnerOrder
+loop-holds c = (omega arith, refl, c .before .pre .1, c .before .pre .3, refl)
 
 array-share-prefix-waiting : tie.Need-array-share-prefix-waiting Inv-loop μ-loop
 array-share-prefix-waiting c = has-all (c .before)
@@ -68,36 +76,61 @@ slice-aggregate-next-runner c = sym (length-take-le _ _ (has-all (c .before .bef
 sub-next : tie.Need-sub-next Inv-loop μ-loop
 sub-next c = omega (arith, is-next c)
 
-array-write-picked : tie.Need-array-write-picked Inv-loop μ-loop
-array-write-picked c = omega (arith, inside c, fits (c .before .before .before .before))
+array-write-ran : tie.Need-array-write-ran Inv-loop μ-loop
+array-write-ran c = omega (arith, inside c, fits (c .before .before .before .before .before))
+
+-- no more are picked than the table has tasks
+few : (c : tie.After-next-runner Inv-loop μ-loop) → c .before .before .before .loop .found < 32
+unfolding openCount
+few c =
+    let l = c .before .before .before in
+    let m = l .before .before .args .self in
+    let few-open : openCount m ≤ m .table .count = count-bound (λ i. jobAt m i .«open») (m .table .count) in
+    omega (arith, fits (l .before .before), c .before .before .loop-test .taken, l .before .before .pre .2)
 
 mul-waiting : tie.Need-mul-waiting Inv-loop μ-loop
-mul-waiting c = omega (arith, inside c, fits (c .before .before .before .before))
+mul-waiting c = omega (arith, inside c, fits (c .before .before .before .before .before))
 
 array-write-waiting : tie.Need-array-write-waiting Inv-loop μ-loop
-array-write-waiting c = omega (arith, inside c, fits (c .before .before .before .before))
+array-write-waiting c = omega (arith, inside c, fits (c .before .before .before .before .before))
+
+slice-write-order : tie.Need-slice-write-order Inv-loop μ-loop
+slice-write-order c = omega (arith, few c, c .before .before .before .loop .inv .3)
+
+-- the index of a number
+index-of : (i : ℕ) → suc i - 1 ≡ i
+index-of i = omega arith
 
 loop-again : tie.Need-loop-again Inv-loop μ-loop
-unfolding pick withPicked candidates
+unfolding pick withPicked candidates runnerOrder
 loop-again c =
     let l = c .before .before .before in
-    let m = l .before .args .self in
+    let m = l .before .before .args .self in
     let k = l .loop .found in
-    let next = runner (c .before .before) in (
+    let next = runner (c .before .before) in
+    let listed : c .next-runner .result - 1 ≡ nextRunner (candidates m (pick m k)) - 1 = rw (next .number-is, index-of (next .index)) (at-index c) in (
       omega arith,
       rw (add-one k, l .loop .inv .1, at-index c, next .number-is),
       rw (add-one k, l .loop .inv .2, at-index c, next .number-is)
           (ranks-picked m (pick m k) (next .index)
-          (omega (arith, next .next .inside, fits (l .before), length-pick m k))
+          (omega (arith, next .next .inside, fits (l .before .before), length-pick m k))
           (next .next .inside)
-          (fits (l .before))),
+          (fits (l .before .before))),
+      length-set (l .loop .order) k _ ∙ l .loop .inv .3,
+      rw (add-one k)
+          (take-suc-set (l .loop .order) k (c .next-runner .result - 1) (omega (arith, few c, l .loop .inv .3)) ∙ rw (l .loop .inv .4, listed)),
     )
+
+same-length : tie.Need-same-length Inv-loop μ-loop
+same-length c =
+    let l = c .before in
+    l .loop .inv .3 ∙ sym (l .before .before .pre .3)
 
 returns : tie.Need-returns Inv-loop μ-loop
 returns c =
     let l = c .before in
-    let e : l .loop .found ≡ l .before .args .wanted = omega arith in
-    l .loop .inv .1 ∙ rw e
+    let e : l .loop .found ≡ l .before .before .args .wanted = omega arith in
+    (l .loop .inv .1 ∙ rw e, rw e at (l .loop .inv .4))
 
 pub pick-spec : {M : Type 1} → statement M
 pick-spec =
@@ -110,10 +143,14 @@ pick-spec =
     slice-aggregate-next-runner
     (λ c κs. search needs)
     sub-next
-    array-write-picked
+    array-write-ran
+    (λ c. omega (arith, few c))
+    (λ c. omega (arith, few c))
+    slice-write-order
     mul-waiting
     array-write-waiting
     (λ c. omega arith)
     (λ c. omega arith)
     loop-again
+    same-length
     returns)

@@ -1,0 +1,45 @@
+//! Literal machines made by hand, an entry written as its line, and the check of what
+//! is printed for one call by the simulated machine and by the program.
+
+use crate::probe::{Entry, HandMade, Probe, output};
+use crate::program;
+use crate::script::Call;
+use crate::tasks::Task;
+
+/// T C D, open, left, budget still owed, gap, core.
+pub type Line = [u32; 8];
+
+/// The first entries of a machine; the others are 0.
+pub fn machine(count: u32, cores: u32, lines: &[Line]) -> HandMade {
+    let mut entries = [Entry::ZERO; 32];
+    for (entry, line) in entries.iter_mut().zip(lines) {
+        *entry = Entry::of_line(*line);
+    }
+    HandMade {
+        count,
+        cores,
+        entries,
+    }
+}
+
+/// The same literal answer and machine after the call by both.
+pub fn check(before: &HandMade, call: Call, answer: &str, after: &HandMade) {
+    let probe = Probe {
+        machine: before.clone(),
+        call,
+    };
+    let expected = format!("{answer}\n{after}");
+    let (answer, after) = probe.play();
+    let simulated = output(answer, &after);
+    assert_eq!(simulated, expected, "the simulated machine, {call}");
+    let printed = program::probe_output(probe.text().as_bytes());
+    assert_eq!(String::from_utf8_lossy(&printed), expected, "probe, {call}");
+}
+
+/// A call of each kind on an unsound machine, which stays as it was.
+pub fn check_unsound(machine: &HandMade) {
+    let join = Call::Join(Task::new(9, 1, 9));
+    for call in [Call::Release(1), Call::Finish(1), Call::Slot(1), join] {
+        check(machine, call, "REFUSED 0", machine);
+    }
+}
