@@ -1,9 +1,9 @@
 -- Which numbers are among those of a list. Others cite: `some-inside`, that past its end a list reads as 0; `among-index` and `among-at`, by an index; `among-set`, after an entry that was 0 or the same is
 -- set; `among-more`, with one more at the end; and `among-few`, that no more are among a list than it has entries.
 use Prim.Native.Nat.{ℕ, zero, suc, _+_, _≤_, _<_}
-use mathlib.Core.Path.{_≡_, refl, _∙_}
+use mathlib.Core.Path.{_≡_, refl}
 use mathlib.Core.List.{List, [], _∷_, _++_}
-use mathlib.Core.Bool.{Bool, true, false, _||_, or-assoc, or-true, or-comm}
+use mathlib.Core.Bool.{Bool, true, false, _||_, or-true, or-comm}
 use mathlib.Core.Logic.{_⊎_, inl, inr}
 use native.Mathlib.Omega.{arith}
 use lib.Dec.{eqb}

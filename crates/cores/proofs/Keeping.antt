@@ -1,7 +1,7 @@
 -- The runners that keep their cores, from the last to the first, as the code goes: `Keeping`, with `keeping-length`, `keeping-none`, `keeping-more`, `keeping-large` and
 -- `keeping-far`.
 use Prim.Native.Nat.{ℕ, suc, _-_, _≤_, _<_}
-use mathlib.Core.Path.{_≡_, refl, sym, ap, _∙_}
+use mathlib.Core.Path.{_≡_, sym, ap, _∙_}
 use mathlib.Core.List.{List, _∷_}
 use mathlib.Core.Bool.{Bool, true, false}
 use mathlib.Core.Logic.{_⊎_, inl, inr}

@@ -1,6 +1,6 @@
 -- The cores that runners keep. Others cite: `length-kept`; `kept-at`, each entry; `kept-some`, what an entry that is not 0 is (`Keeps`); and `kept-count`,
 -- that the cores kept and the runners without one are no more than the runners. Of lists: `isDistinct` with `distinct-more`, and `AllInside`.
-use Prim.Native.Nat.{ℕ, zero, suc, _+_, _≤_, _<_}
+use Prim.Native.Nat.{ℕ, _+_, _≤_, _<_}
 use mathlib.Core.Path.{_≡_, refl, sym, _∙_}
 use mathlib.Core.List.{List, [], _∷_, _++_}
 use mathlib.Core.Bool.{Bool, true, false, cond, not, _&&_, or-true}
@@ -8,7 +8,7 @@ use native.Mathlib.Omega.{arith}
 use lib.Dec.{eqb, leb}
 use lib.ListN.{length, getD, set, length-set, length-replicate}
 use lib.Seq.{getD-set-same, getD-set-other, set-getD}
-use borrow.Author.Tests.{leb-true, eqb-true, eq-eqb, ne-eqb, not-true}
+use borrow.Author.Tests.{leb-true, eq-eqb, ne-eqb, not-true}
 use Rattle.laws.proofs.CaseSplits.{by-test, by-equal, not-both}
 use Rattle.laws.proofs.Booleans.{and-left, and-right}
 use Rattle.laws.proofs.Replaced.{replicate-entry}

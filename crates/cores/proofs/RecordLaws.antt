@@ -1,13 +1,13 @@
 -- Sound records of cores, entry by entry: `Apart`, with `sound-apart` and `apart-sound`; `apart-same`, of a list whose entries are the same or 0. Of a part
 -- of a sound record: `sound-drop`.
-use Prim.Native.Nat.{ℕ, zero, suc, _≤_, _<_}
+use Prim.Native.Nat.{ℕ, zero, suc, _≤_}
 use mathlib.Core.Path.{_≡_, refl, sym, _∙_}
 use mathlib.Core.List.{List, [], _∷_}
-use mathlib.Core.Bool.{Bool, true, false, not, _&&_, _||_}
+use mathlib.Core.Bool.{true, false, not, _&&_, _||_}
 use native.Mathlib.Omega.{arith}
 use lib.Dec.{eqb, leb}
-use lib.ListN.{length, getD, drop}
-use borrow.Author.Tests.{leb-true, le-leb, eqb-true, eq-eqb, ne-eqb, not-true}
+use lib.ListN.{getD, drop}
+use borrow.Author.Tests.{leb-true, le-leb, eq-eqb, ne-eqb, not-true}
 use Rattle.laws.proofs.CaseSplits.{by-test, by-equal, by-order, not-both}
 use Rattle.laws.proofs.Booleans.{and-left, and-right}
 use Rattle.tasks.specs.Limits.{maxCores}

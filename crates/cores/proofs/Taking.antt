@@ -1,13 +1,12 @@
 -- The runners that take a core, in precedence, as the code goes: `Taking`, with `taking-none`, `taking-one`, `taking-has` and `taking-far`; `takes-lowest` says
 -- that the flags give the lowest unused core.
-use Prim.Native.Nat.{ℕ, suc, _+_, _≤_, _<_, min}
+use Prim.Native.Nat.{ℕ, _+_, _≤_, _<_, min}
 use mathlib.Core.Path.{_≡_, refl, ap, _∙_}
 use mathlib.Core.List.{List, _∷_}
 use mathlib.Core.Bool.{Bool, true, false}
 use mathlib.Core.Logic.{inl}
 use native.Mathlib.Numerals.{add-one}
 use native.Mathlib.Omega.{arith}
-use lib.Dec.{eqb}
 use lib.ListN.{length, getD, set, drop, length-set, List·getD-eq-default}
 use lib.Seq.{drop-cons, set-out}
 use borrow.Author.Tests.{eq-eqb, ne-eqb}

@@ -3,35 +3,31 @@
 -- start the answers without their cores are those of before (`list-as-before`).
 use Prim.Native.Nat.{ℕ, zero, suc, _-_}
 use mathlib.Core.Path.{_≡_, refl, sym, ap, _∙_}
-use mathlib.Core.Bool.{Bool, true, false, cond, not, _&&_}
+use mathlib.Core.Bool.{Bool, true, false, cond, not}
 use mathlib.Core.List.{List, [], _∷_}
 use lib.Dec.{leb, ltb}
-use Rattle.laws.proofs.CaseSplits.{by-test}
 use Rattle.tasks.specs.declared.task.Task.{Task}
 use Rattle.tasks.specs.declared.table.Table.{Table}
 use Rattle.tasks.specs.declared.outcome.Outcome.{Outcome}
 use Rattle.tasks.specs.declared.outcome.Outcome.the-variants.{Done, Refused}
-use Rattle.tasks.specs.Limits.{maxTasks, maxCores}
+use Rattle.tasks.specs.Limits.{maxTasks}
 use Rattle.tasks.specs.Refusals.{unsoundMachine}
 use Rattle.tasks.specs.Task.{inRange}
-use Rattle.tasks.specs.Outcome.{isDone}
-use Rattle.tasks.specs.Table.{withTask}
-use Rattle.judge.specs.Judge.{judged}
 use Rattle.machine.specs.Machine.{taskAt, jobAt, withJob, inTable}
 use Rattle.machine.specs.Pick.{openCount, waiting, precedes, candidates, pick, runnerCount, runners}
 use Rattle.machine.specs.Slot.{passed, ranCount, noReport, slotReport, afterSlot}
 use Rattle.machine.specs.Cores.{withAssigned}
 use Rattle.machine.specs.Sound.{jobsSound, sound}
 use Rattle.machine.specs.Calls.{done, refuse, release, finish, slotCoresInRange, slot, withJoined, joinAfter, join, step, start}
-use Rattle.machine.specs.Play.{Entry, play}
+use Rattle.machine.specs.Play.{play}
 use Rattle.machine.specs.BareMachine.{BareMachine, bare, bareTaskAt, bareJobAt, bareWithJob, bareInTable, bareJobsSound, bareSound, bareOpenCount, bareCandidates, barePick, bareRunners}
-use Rattle.machine.specs.BareCalls.{bareReport, BareAnswer, bareAnswer, barePassed, bareNoReport, bareSlotReport, bareAfterSlot, bareDone, bareRefuse, bareRelease, bareFinish, bareSlot, bareWithJoined, bareJoinAfter, bareJoin, bareStep, BareEntry, barePlay, bareLog}
+use Rattle.machine.specs.BareCalls.{bareReport, BareAnswer, bareAnswer, barePassed, bareNoReport, bareSlotReport, bareAfterSlot, bareDone, bareRefuse, bareRelease, bareFinish, bareSlot, bareWithJoined, bareJoinAfter, bareJoin, bareStep, barePlay, bareLog}
 use Rattle.machine.specs.declared.machine.Machine.{Machine}
 use Rattle.machine.specs.declared.call.Call.{Call}
 use Rattle.machine.specs.declared.call.Call.the-variants.{Release, Finish, Slot, Join}
 use Rattle.machine.specs.declared.answer.Answer.{Answer}
 use Rattle.machine.proofs.SoundLaws.{before-cores}
-use Rattle.machine.proofs.SoundKept.{SoundOn, call-keeps, start-sound}
+use Rattle.machine.proofs.SoundKept.{call-keeps, start-sound}
 
 -- two answers to a test, each without its cores
 past : (t : Bool) (a a' : Answer) (b b' : BareAnswer) → bareAnswer a ≡ b → bareAnswer a' ≡ b' → bareAnswer (cond t a a') ≡ cond t b b'

@@ -2,14 +2,13 @@
 -- `listed-length`, that they are so many different tasks of the table.
 use Prim.Native.Nat.{ℕ, zero, suc, _-_, _≤_, _<_}
 use mathlib.Core.Path.{_≡_, refl, sym, _∙_}
-use mathlib.Core.Bool.{Bool, true, false, or-true, or-false}
-use mathlib.Core.List.{List, [], _∷_, _++_}
+use mathlib.Core.Bool.{true, false, or-true, or-false}
+use mathlib.Core.List.{[], _∷_, _++_}
 use native.Mathlib.Omega.{arith}
-use lib.Dec.{eqb}
 use lib.ListN.{length, getD, set, length-append}
 use lib.Seq.{getD-set-same, getD-set-other}
-use borrow.Author.Tests.{eqb-true, eq-eqb, ne-eqb}
-use Rattle.laws.proofs.CaseSplits.{by-test, by-equal, not-both}
+use borrow.Author.Tests.{eq-eqb, ne-eqb}
+use Rattle.laws.proofs.CaseSplits.{by-equal, not-both}
 use Rattle.laws.proofs.Replaced.{replicate-entry}
 use Rattle.tasks.specs.Limits.{maxTasks}
 use Rattle.job.specs.Search.{nextRunner}

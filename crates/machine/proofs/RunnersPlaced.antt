@@ -10,8 +10,7 @@ use Rattle.edzl.specs.Sums.{sumTo, bit}
 use Rattle.edzl.proofs.SumLaws.{sum-same}
 use Rattle.cores.specs.Assign.{isAmong}
 use Rattle.cores.proofs.AmongLaws.{among-few}
-use Rattle.cores.proofs.RecordLaws.{Apart, sound-apart}
-use Rattle.cores.proofs.KeptLaws.{AllInside}
+use Rattle.cores.proofs.RecordLaws.{sound-apart}
 use Rattle.cores.proofs.OwnCores.{Assigned, assigned-all}
 use Rattle.tasks.specs.Limits.{maxTasks}
 use Rattle.machine.specs.Pick.{openCount, runnerCount, runners}

@@ -1,5 +1,4 @@
 -- `keep` meets its contract. The invariant: the runners from n on have kept their cores.
-use Prim.Native.Nat.{_≤_, _<_}
 use native.Mathlib.Omega.{arith}
 use mathlib.Core.Path.{_≡_, sym, ap, _∙_}
 use lib.ListN.{length}

@@ -1,8 +1,6 @@
 -- `cores_sound` meets its contract. The invariant: the cores from n on are sound, and have their flags.
 use native.Mathlib.Omega.{arith}
-use mathlib.Core.Path.{_≡_, sym, refl}
-use lib.ListN.{length}
-use borrow.Author.Needs.{needs}
+use mathlib.Core.Path.{_≡_, sym}
 use Rattle.cores.proofs.Seen.{Seen, seen-none, seen-0, seen-more, too-large, seen-twice}
 use Rattle.cores.proofs.record.cores_sound.Statement.{statement}
 use Rattle.cores.proofs.record.cores_sound.Tie as tie
