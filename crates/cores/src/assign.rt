@@ -8,6 +8,9 @@ ghost use Rattle.tasks.specs.Limits.{maxTasks};
 ghost use Rattle.cores.specs.Assign.{keptCore, firstUnused, assignment};
 ghost use Rattle.cores.specs.Used.{KeptCores};
 
+// A core for each task, 0 for none.
+pub type Cores = [u32; MAX_TASKS];
+
 // A flag for 0 and for as many cores as there are tasks: while a task has none, one of these is unused.
 const FLAGS: usize = 33;
 
@@ -22,13 +25,7 @@ fn kept_core(recorded: u32, available: u32) -> u32
 }
 
 // Puts the cores of the runners that keep theirs into an array of no cores, and their flags into one of none.
-fn keep(
-    recorded: [u32; MAX_TASKS],
-    runners: &[usize],
-    available: u32,
-    cores: &mut [u32],
-    used: &mut [bool],
-)
+fn keep(recorded: Cores, runners: &[usize], available: u32, cores: &mut [u32], used: &mut [bool])
     requires { ⌜ (now cores ≡ replicate maxTasks 0) × (now used ≡ replicate (suc maxTasks) false) ⌝ }
     ensures { λ r. ⌜ KeptCores recorded available (now (runners .entry)) (now (cores .exit)) (now (used .exit)) ⌝ }
 {
@@ -65,7 +62,7 @@ fn first_unused(used: [bool; FLAGS], available: u32) -> usize
 
 // The core of each runner of a slot, 0 for every other task: every runner keeps its recorded core if it is among those available, and then the
 // others, in precedence, take the unused ones in rising number. The runners are named by their indexes, in precedence.
-pub fn assign(recorded: [u32; MAX_TASKS], runners: &[usize], available: u32) -> [u32; MAX_TASKS]
+pub fn assign(recorded: Cores, runners: &[usize], available: u32) -> Cores
     ensures { λ r. ⌜ r ≡ assignment recorded available (now (runners .entry)) ⌝ }
 {
     let mut cores = [0u32; MAX_TASKS];
