@@ -66,18 +66,20 @@ static bool sound(const struct machine *machine)
     return true;
 }
 
-/* Opens a job of the task with this number, from 1, if it is allowed. */
-static bool release(struct machine *machine, size_t number)
+/* Opens a job of the task with this number, from 1, that needs so many slots, if it is allowed. */
+static bool release(struct machine *machine, size_t number, uint32_t need)
 {
     if (CHECKED && !sound(machine))
         return false;
     if (number < 1 || number > machine->table.count)
         return false;
+    const struct task *task = &machine->table.tasks[number - 1];
+    if (need < 1 || need > task->budget)
+        return false;
     struct job *job = &machine->jobs[number - 1];
     if (job->gap > 0)
         return false;
-    const struct task *task = &machine->table.tasks[number - 1];
-    *job = (struct job){true, task->deadline, task->budget, task->period};
+    *job = (struct job){true, task->deadline, need, task->period};
     return true;
 }
 
@@ -209,7 +211,7 @@ static uint64_t play(struct machine *machine)
     for (uint32_t number = 0; number < SLOTS; number++) {
         for (size_t i = 0; i < machine->table.count; i++)
             if (machine->jobs[i].gap == 0 && !machine->jobs[i].open)
-                release(machine, i + 1);
+                release(machine, i + 1, machine->table.tasks[i].budget);
         slot(machine, machine->cores, &report);
         sum = folded(sum, mask(report.ran));
         sum = folded(sum, mask(report.finished));

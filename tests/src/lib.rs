@@ -1,5 +1,5 @@
 //! An independent check of the table reader, the window test and the slot
-//! machine, written from document 01 and changes 1 to 4 of document 02 alone
+//! machine, written from document 01 and changes 1 to 5 of document 02 alone
 //! and compared with the C entry and the programs.
 
 pub mod assignment;
@@ -9,6 +9,8 @@ pub mod experiment;
 pub mod faults;
 pub mod host;
 pub mod machine;
+pub mod need_events;
+pub mod needs;
 pub mod oracle;
 pub mod parts;
 pub mod probe;

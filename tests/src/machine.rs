@@ -1,7 +1,8 @@
 //! The dispatching machine: document 01, "The slot machine", with the refusals
-//! of "Why a call is not carried out", and changes 1 to 4 of document 02: each slot
+//! of "Why a call is not carried out", and changes 1 to 5 of document 02: each slot
 //! names its cores, of equal deadlines the longer job goes first, an open task whose
-//! gap is below its left makes a machine unsound, and each runner has its own core.
+//! gap is below its left makes a machine unsound, each runner has its own core, and
+//! each release names its job's need, e.
 
 use std::cmp::Reverse;
 
@@ -81,19 +82,23 @@ impl Machine {
         })
     }
 
-    /// Release of a task, which keeps its core. Refusals: 0, 8, 9. Number 9 covers an
-    /// open task too: on a sound machine its gap is at least its left, and so above 0.
-    pub fn release(&mut self, number: u32) -> Result<(), Refusal> {
+    /// Release of a task, which keeps its core, with its job's need, e. Refusals: 0, 8,
+    /// 15, 9. Number 9 covers an open task too: on a sound machine its gap is at least
+    /// its left, and so above 0.
+    pub fn release(&mut self, number: u32, need: u32) -> Result<(), Refusal> {
         self.check_soundness()?;
         let index = self.index(number)?;
         let (task, job) = (self.table[index], &mut self.jobs[index]);
+        if !(1..=task.budget).contains(&need) {
+            return Err(Refusal::whole(15));
+        }
         if job.gap > 0 {
             return Err(Refusal::whole(9));
         }
         *job = Job {
             open: true,
             left: task.deadline,
-            budget: task.budget,
+            budget: need,
             gap: task.period,
             ..*job
         };

@@ -36,10 +36,12 @@ pub fn check(before: &HandMade, call: Call, answer: &str, after: &HandMade) {
     assert_eq!(String::from_utf8_lossy(&printed), expected, "probe, {call}");
 }
 
-/// A call of each kind on an unsound machine, which stays as it was.
+/// A call of each kind, and a release of need 0, on an unsound machine, which stays as
+/// it was.
 pub fn check_unsound(machine: &HandMade) {
     let join = Call::Join(Task::new(9, 1, 9));
-    for call in [Call::Release(1), Call::Finish(1), Call::Slot(1), join] {
+    let (release, needless) = (Call::Release(1, 1), Call::Release(1, 0));
+    for call in [release, needless, Call::Finish(1), Call::Slot(1), join] {
         check(machine, call, "REFUSED 0", machine);
     }
 }

@@ -3,6 +3,7 @@
 
 use crate::edges::{CHANGES, change};
 use crate::machine::{Job, Machine};
+use crate::needs::{self, NEEDS};
 use crate::probe::{Entry, HandMade, Probe};
 use crate::random::Random;
 use crate::script::{Call, carry_out};
@@ -104,9 +105,11 @@ fn wide(random: &mut Random) -> Machine {
     };
     let cores = random.pick(&[1, 2, 8, 15, MOST_CORES]);
     let mut machine = Machine::start(&table, cores).expect("a table on 1 to 16 cores");
-    for number in 1..=32 {
+    let needs = random.pick(&NEEDS);
+    for (number, task) in (1..).zip(&table) {
         if !random.one_in(4) {
-            carry_out(&mut machine, Call::Release(number));
+            let need = needs::accepted(random, needs, task);
+            carry_out(&mut machine, Call::Release(number, need));
         }
     }
     for _ in 0..random.below(6) {
@@ -274,12 +277,34 @@ fn raw_entry(random: &mut Random) -> Entry {
 // A call of any kind, often one that concerns the task that was changed.
 fn with_call(random: &mut Random, machine: HandMade, changed: u32) -> Probe {
     let call = match random.below(4) {
-        0 => Call::Release(number(random, &machine, changed)),
+        0 => release(random, &machine, changed),
         1 => Call::Finish(number(random, &machine, changed)),
         2 => Call::Slot(cores(random, machine.cores)),
         _ => Call::Join(joins(random, &machine)),
     };
     Probe { machine, call }
+}
+
+// Once in three times of a task that is due or would be, if there is one. The need is
+// near the C of the entry that the number names.
+fn release(random: &mut Random, machine: &HandMade, changed: u32) -> Call {
+    let any = number(random, machine, changed);
+    let number = match random.one_in(3) {
+        true => due(random, machine).unwrap_or(any),
+        false => any,
+    };
+    let index = usize::try_from(number.wrapping_sub(1)).expect("a number of 32 bits");
+    let entry = machine.entries.get(index).unwrap_or(&machine.entries[0]);
+    Call::Release(number, needs::of_any_entry(random, &entry.task))
+}
+
+// The first entry past the count is no task, though it may look due.
+fn due(random: &mut Random, machine: &HandMade) -> Option<u32> {
+    let entries = machine.entries.iter().take(machine.tasks()? + 1);
+    let due = (1..).zip(entries);
+    let due = due.filter(|(_, entry)| !entry.job.open && entry.job.gap == 0);
+    let numbers: Vec<u32> = due.map(|(number, _)| number).collect();
+    (!numbers.is_empty()).then(|| random.pick(&numbers))
 }
 
 // A task of the table, or a number at or past its ends.

@@ -1,8 +1,8 @@
 //! Demand 3 (document 01, "Demand 3 is a single claim about the whole list of
-//! calls", with change 1 of document 02), read from a script and its printed
-//! answers alone: on an admitted table, whatever k each slot names, no slot
-//! reports a late job, and each released job is closed in time. A refused slot
-//! is no slot in anybody's D.
+//! calls", with changes 1 and 5 of document 02), read from a script and its printed
+//! answers alone: on an admitted table, whatever k each slot and whatever e each
+//! release names, no slot reports a late job, and each released job is closed in
+//! time, by having run e slots or by a finish. A refused slot is no slot in anybody's D.
 
 use crate::reading::read;
 use crate::script::{Call, Script};
@@ -10,12 +10,14 @@ use crate::tasks::Task;
 use crate::window::judge;
 
 /// How many released jobs were closed by running and by a finish, and how many
-/// were still open when the calls ended before the deadline. Of the closed ones,
-/// how many saw a refused slot since their release, and how many saw more than D
-/// slots with the refused ones: too late, if those were slots in D.
+/// were still open when the calls ended before the deadline. Of those closed by
+/// running, how many ran fewer slots than C. Of the closed ones, how many saw a
+/// refused slot since their release, and how many saw more than D slots with the
+/// refused ones: too late, if those were slots in D.
 #[derive(Clone, Copy, Debug, Default, PartialEq, Eq)]
 pub struct Kept {
     pub by_running: u64,
+    pub by_fewer_runs_than_c: u64,
     pub by_a_finish: u64,
     pub undecided: u64,
     pub past_refused_slots: u64,
@@ -25,8 +27,10 @@ pub struct Kept {
 // A job of an accepted release that is not closed yet.
 struct Watch {
     number: u32,
-    // Slot answers that must still say that the task ran.
+    // Slot answers that must still say that the task ran: e at the release.
     runs: u32,
+    // Whether e is below C.
+    is_short: bool,
     // Accepted slots up to and including the D-th after the release.
     slots: u32,
     // Refused slots since the release.
@@ -87,7 +91,7 @@ impl Record {
             return Err(format!("no answer to such a call: {answer}"));
         }
         match call {
-            Call::Release(number) => self.release(number)?,
+            Call::Release(number, need) => self.release(number, need)?,
             Call::Finish(number) => self.finish(number),
             Call::Join(task) => self.table.push(task),
             Call::Slot(_) | Call::Bad(_) => {}
@@ -104,13 +108,15 @@ impl Record {
         }
     }
 
-    fn release(&mut self, number: u32) -> Result<(), String> {
+    // e is the call's, C and D are those of the table at this point.
+    fn release(&mut self, number: u32, need: u32) -> Result<(), String> {
         let index = usize::try_from(number).expect("a number of 32 bits");
         let task = index.checked_sub(1).and_then(|index| self.table.get(index));
         let task = task.ok_or(format!("a release of no task, {number}"))?;
         self.open.push(Watch {
             number,
-            runs: task.budget,
+            runs: need,
+            is_short: need < task.budget,
             slots: task.deadline,
             refused_slots: 0,
         });
@@ -127,7 +133,13 @@ impl Record {
         if printed.late != 0 {
             return Err(format!("late jobs, {}", printed.late));
         }
-        self.kept.by_running += self.close(|watch| watch.is_closed_by(printed));
+        let mut short = 0;
+        self.kept.by_running += self.close(|watch| {
+            let closed = watch.is_closed_by(printed);
+            short += u64::from(closed && watch.is_short);
+            closed
+        });
+        self.kept.by_fewer_runs_than_c += short;
         match self.open.iter().find(|watch| watch.slots == 0) {
             Some(watch) => Err(format!("a job of task {} is not closed", watch.number)),
             None => Ok(()),
@@ -147,7 +159,7 @@ impl Record {
 }
 
 impl Watch {
-    // The C-th slot in which the task ran must also say that it finished.
+    // The e-th slot in which the task ran must also say that it finished.
     fn is_closed_by(&mut self, printed: &Printed) -> bool {
         self.slots -= 1;
         let ran = holds(printed.ran, self.number) && self.runs > 0;

@@ -1,6 +1,6 @@
 //! Scripts for the program that replays calls: the number of cores, a table as
 //! text and a list of calls, with the answers that document 01 expects, and
-//! changes 1 to 4 of document 02.
+//! changes 1 to 5 of document 02.
 
 use std::fmt;
 
@@ -14,7 +14,8 @@ pub const MOST_SCRIPT_BYTES: usize = 65_536;
 /// One line after the line CALLS.
 #[derive(Clone, Copy, Debug, PartialEq, Eq)]
 pub enum Call {
-    Release(u32),
+    /// A release of a task, and its job's need, e.
+    Release(u32, u32),
     Finish(u32),
     /// A slot with its number of cores, k.
     Slot(u32),
@@ -44,7 +45,7 @@ pub struct Script {
 impl fmt::Display for Call {
     fn fmt(&self, line: &mut fmt::Formatter) -> fmt::Result {
         match self {
-            Call::Release(number) => write!(line, "RELEASE {number}"),
+            Call::Release(number, need) => write!(line, "RELEASE {number} {need}"),
             Call::Finish(number) => write!(line, "FINISH {number}"),
             Call::Slot(cores) => write!(line, "SLOT {cores}"),
             Call::Join(task) => {
@@ -138,7 +139,7 @@ pub fn lines<T: fmt::Display>(items: &[T]) -> String {
 /// One call on the simulated machine.
 pub fn carry_out(machine: &mut Machine, call: Call) -> Answer {
     let answer = match call {
-        Call::Release(number) => machine.release(number).map(|()| Answer::Done),
+        Call::Release(number, need) => machine.release(number, need).map(|()| Answer::Done),
         Call::Finish(number) => machine.finish(number).map(|()| Answer::Done),
         Call::Slot(cores) => machine.slot(cores).map(Answer::Ran),
         Call::Join(task) => machine.join(task).map(|()| Answer::Done),

@@ -2,6 +2,7 @@
 //! admission, and some are refused at the start or end at a bad line.
 
 use crate::machine::{Job, Machine};
+use crate::needs::{self, NEEDS, Needs};
 use crate::random::Random;
 use crate::reading::{LINE_END, MOST_BYTES, read};
 use crate::script::{Call, MOST_SCRIPT_BYTES, Script, carry_out};
@@ -49,7 +50,7 @@ const CORE_RATES: [CoreRates; 8] = [
 ];
 
 // Lines that are no call by the format: other words, counts, digits and bytes.
-const BAD_LINES: [&str; 24] = [
+const BAD_LINES: [&str; 38] = [
     "SLOTS 2",
     "slot 2",
     "SLOT",
@@ -62,10 +63,24 @@ const BAD_LINES: [&str; 24] = [
     "SLOT 2 2",
     "SLOT 4294967296",
     "RELEASE",
-    "RELEASE x",
-    "RELEASE -1",
-    "RELEASE 01",
-    "RELEASE 1 1",
+    "RELEASE x 1",
+    "RELEASE -1 1",
+    "RELEASE 01 1",
+    "RELEASE 4294967296 1",
+    "RELEASE 1",
+    "RELEASE 1 ",
+    "RELEASE 1 1 ",
+    "RELEASE 1  1",
+    "RELEASE 1 1 1",
+    "RELEASE 1 x",
+    "RELEASE 1 -1",
+    "RELEASE 1 01",
+    "RELEASE 1 00",
+    "RELEASE 1 1x",
+    "RELEASE 1 4294967296",
+    "RELEASE 1 4294967297",
+    "RELEASE 1 10000000000",
+    "RELEASE 1\t1",
     "FINISH",
     "FINISH 1x",
     "FINISH 4294967296",
@@ -84,8 +99,8 @@ pub fn script(seed: u64, index: u64) -> Script {
         1 => on_odd_cores(&mut random),
         2 => ended_by_a_bad_line(&mut random),
         3..=5 => growing(&mut random),
-        6..=8 => overloaded(&mut random),
-        9..=23 => packed(&mut random),
+        6..=10 => overloaded(&mut random),
+        11..=23 => packed(&mut random),
         24..=26 => tied(&mut random),
         _ => near_edge(&mut random),
     };
@@ -267,9 +282,10 @@ fn with_calls(random: &mut Random, cores: u32, table: Vec<u8>, rates: Rates) -> 
     let chosen = cores.clamp(1, MOST_CORES);
     let mut machine = Machine::start(&tasks, chosen).expect("a table on 1 to 16 cores");
     let core_rates = random.pick(&CORE_RATES);
+    let needs = random.pick(&NEEDS);
     let mut calls = Vec::new();
     for _ in 0..length(random) {
-        let call = next(random, &machine, rates);
+        let call = next(random, &machine, rates, needs);
         let call = call.unwrap_or_else(|| Call::Slot(cores_of_slot(random, chosen, core_rates)));
         carry_out(&mut machine, call);
         calls.push(call);
@@ -291,13 +307,13 @@ fn length(random: &mut Random) -> usize {
 }
 
 // Any call but a slot, or none for a slot.
-fn next(random: &mut Random, machine: &Machine, rates: Rates) -> Option<Call> {
+fn next(random: &mut Random, machine: &Machine, rates: Rates, needs: Needs) -> Option<Call> {
     let release = rates.release;
     let finish = release + rates.finish;
     let join = finish + rates.join;
     let odd = join + rates.odd;
     match random.below(64) {
-        roll if roll < release => release_due(random, machine),
+        roll if roll < release => release_due(random, machine, needs),
         roll if roll < finish => finish_open(random, machine),
         roll if roll < join => Some(Call::Join(joining(random, &machine.table))),
         roll if roll < odd => odd_call(random, machine),
@@ -305,9 +321,20 @@ fn next(random: &mut Random, machine: &Machine, rates: Rates) -> Option<Call> {
     }
 }
 
-fn release_due(random: &mut Random, machine: &Machine) -> Option<Call> {
-    let due = some_task(random, machine, |job| !job.open && job.gap == 0);
-    due.map(Call::Release)
+// Once in a while with a need that is refused: the task stays due.
+fn release_due(random: &mut Random, machine: &Machine, needs: Needs) -> Option<Call> {
+    let number = some_task(random, machine, |job| !job.open && job.gap == 0)?;
+    let task = task(machine, number);
+    let need = match random.one_in(64) {
+        true => needs::refused(random, task),
+        false => needs::accepted(random, needs, task),
+    };
+    Some(Call::Release(number, need))
+}
+
+fn task(machine: &Machine, number: u32) -> &Task {
+    let index = usize::try_from(number - 1).expect("at most 32 tasks");
+    &machine.table[index]
 }
 
 fn finish_open(random: &mut Random, machine: &Machine) -> Option<Call> {
@@ -362,20 +389,42 @@ pub fn joining(random: &mut Random, table: &[Task]) -> Task {
     }
 }
 
-// Calls that are refused most of the time: too soon, of a closed or of no task,
-// or a join that breaks the limits.
+// Calls that are refused most of the time: too soon, of a need that is 0 or too
+// large, of a closed or of no task, or a join that breaks the limits.
 fn odd_call(random: &mut Random, machine: &Machine) -> Option<Call> {
     let held = u32::try_from(machine.table.len()).expect("at most 32 tasks");
     let any = random.between(1, held);
-    match random.below(8) {
-        0 | 1 => Some(Call::Release(any)),
-        2 => some_task(random, machine, |job| job.gap > 0).map(Call::Release),
-        3 => some_task(random, machine, |job| !job.open).map(Call::Finish),
-        4 => Some(Call::Finish(any)),
-        5 => Some(Call::Release(no_task(random, held))),
-        6 => Some(Call::Finish(no_task(random, held))),
+    match random.below(10) {
+        0 | 1 => Some(odd_release(random, machine, any)),
+        2 | 3 => {
+            let number = some_task(random, machine, |job| job.gap > 0)?;
+            Some(odd_release(random, machine, number))
+        }
+        4 => some_task(random, machine, |job| !job.open).map(Call::Finish),
+        5 => Some(Call::Finish(any)),
+        6 | 7 => Some(release_of_no_task(random, machine, held)),
+        8 => Some(Call::Finish(no_task(random, held))),
         _ => Some(Call::Join(odd_task(random))),
     }
+}
+
+// With any need, accepted or refused.
+fn odd_release(random: &mut Random, machine: &Machine, number: u32) -> Call {
+    let task = task(machine, number);
+    let need = match random.one_in(2) {
+        true => needs::refused(random, task),
+        false => needs::accepted(random, Needs::Any, task),
+    };
+    Call::Release(number, need)
+}
+
+// With any need: 0, too large for all, or one that some task takes.
+fn release_of_no_task(random: &mut Random, machine: &Machine, held: u32) -> Call {
+    let some = random.pick(&machine.table);
+    let good = needs::accepted(random, Needs::Any, &some);
+    let refused = needs::refused(random, &some);
+    let need = random.pick(&[0, good, refused]);
+    Call::Release(no_task(random, held), need)
 }
 
 // Numbers that are not in the table: the neighbours, and some that a cut to

@@ -1,6 +1,7 @@
 //! What a comparison of machines made by hand should meet: events about the gap of
 //! an open task (document 02, change 3), the limits of sound machines, jobs that no
-//! list of calls leaves, recorded cores (change 4), and the entries past the count.
+//! list of calls leaves, recorded cores (change 4), needs (change 5), and the entries
+//! past the count.
 
 use std::collections::BTreeSet;
 
@@ -253,6 +254,96 @@ const RECORDS: [Event; 16] = [
     }),
 ];
 
+// The need that a release names, against C and nothing else, and the order of the
+// refusals.
+const NEEDS: [Event; 21] = [
+    ("release with e = C", |seen| {
+        seen.need(Answer::Done, |need, task, _| need == task.budget)
+    }),
+    ("release with e below C", |seen| {
+        seen.need(Answer::Done, |need, task, _| need < task.budget)
+    }),
+    ("release with e = 1 below C", |seen| {
+        seen.need(Answer::Done, |need, task, _| need == 1 && 1 < task.budget)
+    }),
+    ("release with e = C − 1 above 1", |seen| {
+        seen.need(Answer::Done, |need, task, _| {
+            need > 1 && need == task.budget - 1
+        })
+    }),
+    ("release that the whole C would make urgent", |seen| {
+        seen.need(Answer::Done, |need, task, _| {
+            need < task.budget && task.budget == task.deadline
+        })
+    }),
+    ("release with e below C, core recorded", |seen| {
+        seen.need(Answer::Done, |need, task, job| {
+            need < task.budget && job.core > 0
+        })
+    }),
+    ("15 for e 0 of a due task", |seen| {
+        seen.need(Answer::Refused(15), |need, _, job| {
+            need == 0 && job.gap == 0
+        })
+    }),
+    ("15 for e = C + 1 of a due task", |seen| {
+        seen.need(Answer::Refused(15), |need, task, job| {
+            need == task.budget + 1 && job.gap == 0
+        })
+    }),
+    ("15 for e = D above C", |seen| {
+        seen.need(Answer::Refused(15), |need, task, _| need == task.deadline)
+    }),
+    ("15 for e = T above D", |seen| {
+        seen.need(Answer::Refused(15), |need, task, _| {
+            need == task.period && task.period > task.deadline
+        })
+    }),
+    ("15 for e of 4,294,967,295", |seen| {
+        seen.need(Answer::Refused(15), |need, _, _| need == u32::MAX)
+    }),
+    ("15 for e 0 while the gap is above 0, task closed", |seen| {
+        seen.need(Answer::Refused(15), |need, _, job| {
+            need == 0 && job.gap > 0 && !job.open
+        })
+    }),
+    (
+        "15 for e above C while the gap is above 0, task closed",
+        |seen| {
+            seen.need(Answer::Refused(15), |need, _, job| {
+                need > 0 && job.gap > 0 && !job.open
+            })
+        },
+    ),
+    ("15 for e 0 of an open job", |seen| {
+        seen.need(Answer::Refused(15), |need, _, job| need == 0 && job.open)
+    }),
+    ("15 for e above C of an open job", |seen| {
+        seen.need(Answer::Refused(15), |need, _, job| need > 0 && job.open)
+    }),
+    ("9 for e = C", |seen| {
+        seen.need(Answer::Refused(9), |need, task, _| need == task.budget)
+    }),
+    ("9 for e below C", |seen| {
+        seen.need(Answer::Refused(9), |need, task, _| need < task.budget)
+    }),
+    ("8 for e 0", |seen| {
+        seen.is(RELEASE, Answer::Refused(8)) && matches!(seen.call, Call::Release(_, 0))
+    }),
+    ("8 for e above 1,000,000", |seen| {
+        seen.is(RELEASE, Answer::Refused(8)) && matches!(seen.call, Call::Release(_, 1_000_001..))
+    }),
+    ("0 for e 0 or above C", |seen| {
+        seen.need(Answer::Refused(0), |need, task, _| {
+            need == 0 || need > task.budget
+        })
+    }),
+    ("0 for e 0 of no task", |seen| {
+        let nobody = seen.named().is_none() && matches!(seen.call, Call::Release(_, 0));
+        nobody && seen.is(RELEASE, Answer::Refused(0))
+    }),
+];
+
 // Entries past the count: no call reads them, and only a join writes its own.
 const PAST: [Event; 20] = [
     ("release, entries past the count not 0", |seen| {
@@ -361,7 +452,7 @@ impl Seen {
         match self.call {
             Call::Finish(_) => FINISH,
             Call::Join(_) => JOIN,
-            Call::Release(_) => RELEASE,
+            Call::Release(..) => RELEASE,
             Call::Slot(_) => SLOT,
             Call::Bad(line) => panic!("no call: {line}"),
         }
@@ -453,11 +544,20 @@ impl Seen {
 
     // The entry of the task that a release or finish names.
     fn named(&self) -> Option<&Entry> {
-        let (Call::Release(number) | Call::Finish(number)) = self.call else {
+        let (Call::Release(number, _) | Call::Finish(number)) = self.call else {
             return None;
         };
         let number = usize::try_from(number).expect("a number of 32 bits");
         self.table().get(number.checked_sub(1)?)
+    }
+
+    // A release with this answer, by its need, its task and the job before it.
+    fn need(&self, answer: Answer, so: fn(u32, &Task, &Job) -> bool) -> bool {
+        let Call::Release(_, need) = self.call else {
+            return false;
+        };
+        let is_so = |entry: &Entry| so(need, &entry.task, &entry.job);
+        self.answer == answer && self.named().is_some_and(is_so)
     }
 
     fn of_open_job(&self) -> bool {
@@ -485,7 +585,7 @@ impl Seen {
     // The call names the first task past the count, whose entry is so.
     fn next_is(&self, so: fn(&Entry) -> bool) -> bool {
         let next = self.before.entries.get(self.table().len());
-        let (Call::Release(number) | Call::Finish(number)) = self.call else {
+        let (Call::Release(number, _) | Call::Finish(number)) = self.call else {
             return false;
         };
         number == self.before.count + 1 && next.is_some_and(so)
@@ -501,7 +601,7 @@ impl Seen {
 
 // Every event on a machine and its call.
 fn events() -> impl Iterator<Item = &'static Event> {
-    let lists: [&'static [Event]; 5] = [&GAPS, &LIMITS, &JOBS, &RECORDS, &PAST];
+    let lists: [&'static [Event]; 6] = [&GAPS, &LIMITS, &JOBS, &RECORDS, &NEEDS, &PAST];
     lists.into_iter().flatten()
 }
 

@@ -1,5 +1,5 @@
-//! Literal sessions: scripts in which every task is released once, and the check
-//! of what is printed by the simulated machine and by the program.
+//! Literal sessions: scripts in which every task is released once with its whole
+//! budget, and the check of what is printed by the simulated machine and by the program.
 
 use crate::program;
 use crate::script::{Call, Script, lines};
@@ -20,10 +20,11 @@ pub fn released_at_once(cores: u32, table: &[Task], slots: usize) -> Script {
     released_then(cores, table, &vec![cores; slots])
 }
 
-/// Every task released once, then a slot for each k.
+/// Every task released once with its whole budget, then a slot for each k.
 pub fn released_then(cores: u32, table: &[Task], slots: &[u32]) -> Script {
     let numbers = (1..).zip(table);
-    let mut calls: Vec<Call> = numbers.map(|(i, _)| Call::Release(i)).collect();
+    let whole = numbers.map(|(number, task)| Call::Release(number, task.budget));
+    let mut calls: Vec<Call> = whole.collect();
     calls.extend(slots.iter().map(|k| Call::Slot(*k)));
     script(cores, table, calls)
 }

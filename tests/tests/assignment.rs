@@ -198,8 +198,8 @@ fn events_of_keepers() {
         Task::new(20, 5, 5),
         Task::new(30, 5, 25),
     ];
-    let mut calls = vec![Release(1), Call::Slot(2), Release(2), Call::Slot(2)];
-    calls.extend([Finish(2), Release(3), Call::Slot(2)]);
+    let mut calls = vec![Release(1, 5), Call::Slot(2), Release(2, 5), Call::Slot(2)];
+    calls.extend([Finish(2), Release(3, 5), Call::Slot(2)]);
     let events = [(SECOND, 1), (ONE_PASS, 1), (FIRST, 1), (TAKEN, 1)];
     check_met(&table, &calls, &events);
     check_met(&table, &calls, &[(BY_NUMBER, 0), (ABOVE, 0), (NEW_JOB, 0)]);
@@ -210,7 +210,7 @@ fn events_of_keepers() {
 #[test]
 fn events_of_others() {
     let table = [Task::new(20, 2, 10), Task::new(20, 1, 5)];
-    let mut calls = vec![Release(1), Release(2), Call::Slot(2), Call::Slot(1)];
+    let mut calls = vec![Release(1, 2), Release(2, 1), Call::Slot(2), Call::Slot(1)];
     calls.extend([Call::Slot(1), Call::Slot(0), Call::Slot(1)]);
     let events = [(BY_NUMBER, 1), (ABOVE, 1), (TAKEN, 1), (NOBODY, 1)];
     check_met(&table, &calls, &events);
@@ -220,8 +220,8 @@ fn events_of_others() {
 // Due again at once: a new job in slots 2 and 3, and not after the slot of nobody.
 #[test]
 fn events_of_new_jobs() {
-    let mut calls = vec![Release(1), Call::Slot(1), Release(1), Call::Slot(1)];
-    calls.extend([Release(1), Call::Slot(1), Call::Slot(1), Release(1)]);
+    let mut calls = vec![Release(1, 1), Call::Slot(1), Release(1, 1), Call::Slot(1)];
+    calls.extend([Release(1, 1), Call::Slot(1), Call::Slot(1), Release(1, 1)]);
     calls.push(Call::Slot(1));
     check_met(&[Task::new(1, 1, 1)], &calls, &[(NEW_JOB, 2), (NOBODY, 1)]);
 }

@@ -39,7 +39,7 @@ fn check_left(cores: u32, lines: &[Line], call: Call, answer: &str) {
 #[test]
 fn a_keeper_second_in_precedence() {
     let table = [Task::new(20, 5, 10), Task::new(20, 5, 5)];
-    let calls = [Release(1), Slot(2), Release(2), Slot(2)];
+    let calls = [Release(1, 5), Slot(2), Release(2, 5), Slot(2)];
     check_calls(2, &table, &calls, "DONE\n1 0 0 1 1\nDONE\n3 0 0 2 1 2\n");
     let before = [[20, 5, 10, 1, 9, 4, 19, 1], [20, 5, 5, 1, 5, 5, 20, 0]];
     let after = [[20, 5, 10, 1, 8, 3, 18, 1], [20, 5, 5, 1, 4, 4, 19, 2]];
@@ -90,7 +90,7 @@ fn a_core_above_k() {
 // core 5 on k = 5, takes core 2 on k = 4, and keeps that one from then on.
 #[test]
 fn core_5_on_five_cores_and_on_four() {
-    let mut calls: Vec<Call> = (1..=5).map(Release).collect();
+    let mut calls: Vec<Call> = (1..=5).map(|number| Release(number, 20)).collect();
     calls.extend([Slot(5), Finish(2), Finish(3), Finish(4)]);
     calls.extend([5, 4, 5].map(Slot));
     let expected = "DONE\n".repeat(5)
@@ -102,7 +102,7 @@ fn core_5_on_five_cores_and_on_four() {
 #[test]
 fn two_of_three_tasks_finished_before_a_slot_of_one_core() {
     for (finished, ran) in [([2, 3], 1), ([1, 3], 2), ([1, 2], 4)] {
-        let mut calls = vec![Release(1), Release(2), Release(3), Slot(3)];
+        let mut calls = vec![Release(1, 5), Release(2, 5), Release(3, 5), Slot(3)];
         calls.extend(finished.map(Finish));
         calls.extend([Slot(1), Slot(3)]);
         let expected =
@@ -116,9 +116,9 @@ fn two_of_three_tasks_finished_before_a_slot_of_one_core() {
 #[test]
 fn a_finished_task_released_again_at_once() {
     let table = [Task::new(9, 5, 9), Task::new(1, 1, 1)];
-    let mut calls = vec![Release(1), Slot(2), Release(2), Slot(2)];
-    calls.extend([Release(2), Finish(1), Slot(2), Release(2), Slot(2)]);
-    calls.extend([Slot(2), Release(2), Slot(2)]);
+    let mut calls = vec![Release(1, 5), Slot(2), Release(2, 1), Slot(2)];
+    calls.extend([Release(2, 1), Finish(1), Slot(2), Release(2, 1), Slot(2)]);
+    calls.extend([Slot(2), Release(2, 1), Slot(2)]);
     let expected = "DONE\n1 0 0 1 1\nDONE\n3 2 0 2 1 2\n\
         DONE\nDONE\n2 2 0 1 2\nDONE\n2 2 0 1 2\n\
         0 0 0 0\nDONE\n2 2 0 1 1\n";
@@ -138,7 +138,7 @@ fn a_late_task_released_again_at_once() {
     ];
     let states = states.map(|lines| machine(2, 2, &lines));
     check(&states[0], Slot(2), "3 0 2 2 1 2", &states[1]);
-    check(&states[1], Release(2), "DONE", &states[2]);
+    check(&states[1], Release(2, 2), "DONE", &states[2]);
     check(&states[2], Finish(1), "DONE", &states[3]);
     check(&states[3], Slot(2), "2 0 0 1 2", &states[4]);
 }
@@ -146,9 +146,9 @@ fn a_late_task_released_again_at_once() {
 // Cores 1 and 2, then a slot of nobody: task 2 alone takes core 1 afterwards.
 #[test]
 fn a_slot_in_which_nobody_runs() {
-    let mut calls = vec![Release(1), Release(2)];
+    let mut calls = vec![Release(1, 1), Release(2, 1)];
     calls.extend([Slot(2); 4]);
-    calls.extend([Release(2), Slot(2)]);
+    calls.extend([Release(2, 1), Slot(2)]);
     let expected = "DONE\nDONE\n3 3 0 2 1 2\n0 0 0 0\n0 0 0 0\n0 0 0 0\nDONE\n2 2 0 1 1\n";
     check_calls(2, &[Task::new(4, 1, 4); 2], &calls, expected);
     let before = [[9, 2, 5, 0, 0, 0, 4, 3], [9, 2, 5, 0, 0, 0, 0, 16]];
@@ -162,7 +162,14 @@ fn a_slot_in_which_nobody_runs() {
 #[test]
 fn a_task_that_waits_for_a_slot() {
     let table = [Task::new(50, 20, 40), Task::new(50, 3, 3)];
-    let calls = [Release(1), Slot(1), Release(2), Slot(1), Slot(2), Slot(1)];
+    let calls = [
+        Release(1, 20),
+        Slot(1),
+        Release(2, 3),
+        Slot(1),
+        Slot(2),
+        Slot(1),
+    ];
     let expected = "DONE\n1 0 0 1 1\nDONE\n2 0 0 1 1\n3 0 0 2 2 1\n2 2 0 1 1\n";
     check_calls(1, &table, &calls, expected);
 }
@@ -172,8 +179,8 @@ fn a_task_that_waits_for_a_slot() {
 #[test]
 fn a_join_between() {
     let table = [Task::new(20, 5, 10); 2];
-    let mut calls = vec![Release(1), Release(2), Slot(2), Finish(1)];
-    calls.extend([Join(Task::new(20, 1, 20)), Slot(2), Release(3), Slot(2)]);
+    let mut calls = vec![Release(1, 5), Release(2, 5), Slot(2), Finish(1)];
+    calls.extend([Join(Task::new(20, 1, 20)), Slot(2), Release(3, 1), Slot(2)]);
     let expected = "DONE\nDONE\n3 0 0 2 1 2\nDONE\nDONE\n2 0 0 1 2\nDONE\n6 4 0 2 2 1\n";
     check_calls(2, &table, &calls, expected);
 }
@@ -190,7 +197,7 @@ fn the_record_after_a_join() {
 // A k below m or above 16 is no slot: task 2 keeps core 2 past it.
 #[test]
 fn a_refused_slot_between() {
-    let mut calls = vec![Release(1), Release(2), Slot(2), Finish(1)];
+    let mut calls = vec![Release(1, 5), Release(2, 5), Slot(2), Finish(1)];
     calls.extend([Slot(1), Slot(17), Slot(0), Slot(2)]);
     let refused = "REFUSED 14\n".repeat(3);
     let expected = format!("DONE\nDONE\n3 0 0 2 1 2\nDONE\n{refused}2 0 0 1 2\n");
@@ -203,8 +210,8 @@ fn the_record_after_refused_calls() {
     for k in [0, 1, 17, u32::MAX] {
         check_left(2, &lines, Slot(k), "REFUSED 14");
     }
-    check_left(2, &lines, Release(1), "REFUSED 9");
-    check_left(2, &lines, Release(3), "REFUSED 8");
+    check_left(2, &lines, Release(1, 5), "REFUSED 9");
+    check_left(2, &lines, Release(3, 5), "REFUSED 8");
     check_left(2, &lines, Finish(2), "REFUSED 11");
     check_left(2, &lines, Finish(0), "REFUSED 8");
     check_left(2, &lines, Join(Task::new(4, 5, 4)), "REFUSED 5");
@@ -217,7 +224,7 @@ fn the_record_after_a_finish_and_a_release() {
     let finished = [[20, 5, 10, 0, 0, 0, 19, 3], on_core(DUE, 16)];
     check(&before, Finish(1), "DONE", &machine(2, 1, &finished));
     let released = [on_core(OPEN, 3), [20, 5, 10, 1, 10, 5, 20, 16]];
-    check(&before, Release(2), "DONE", &machine(2, 1, &released));
+    check(&before, Release(2, 5), "DONE", &machine(2, 1, &released));
 }
 
 // Core 16 is sound. It is kept on 16 cores and above k on 15.
@@ -259,7 +266,7 @@ fn a_core_recorded_twice() {
 // 0 is no core: any number of tasks may have it. The machine goes on.
 #[test]
 fn no_core_recorded_twice() {
-    check_left(2, &[OPEN, OPEN, DUE, DUE], Release(1), "REFUSED 9");
+    check_left(2, &[OPEN, OPEN, DUE, DUE], Release(1, 5), "REFUSED 9");
     let before = machine(3, 2, &[OPEN, on_core(DUE, 1), OPEN]);
     let run = [20, 5, 10, 1, 8, 3, 18, 0];
     let after = machine(3, 2, &[on_core(run, 1), DUE, on_core(run, 2)]);
@@ -317,7 +324,7 @@ fn sixteen_runners_before_the_longest_entries() {
 #[test]
 fn sixteen_runners_in_every_slot_of_the_longest_script() {
     let table = [Task::new(1_000_000, 500_000, 1_000_000); 32];
-    let mut calls: Vec<Call> = (17..=32).map(Release).collect();
+    let mut calls: Vec<Call> = (17..=32).map(|number| Release(number, 500_000)).collect();
     let start = sessions::script(16, &table, calls.clone()).text().len();
     let slots = (MOST_SCRIPT_BYTES - start) / "SLOT 16\n".len();
     calls.extend(vec![Slot(16); slots]);

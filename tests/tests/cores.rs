@@ -57,7 +57,7 @@ fn calls_between_two_slots() {
         Slot(2),
         Slot(0),
         Finish(1),
-        Release(1),
+        Release(1, 9),
         Join(Task::new(9, 1, 9)),
         Slot(2),
     ];

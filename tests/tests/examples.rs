@@ -41,15 +41,19 @@ fn tables() {
 fn scripts() {
     check_script(
         "calls.replay",
-        "DONE\nDONE\nDONE\n7 1 0 3 1 2 3\nREFUSED 9\nDONE\nDONE\nDONE\nREFUSED 14\n12 8 0 2 3 1\nREFUSED 5\n4 0 0 1 3\n",
+        "DONE\nDONE\nDONE\n7 1 0 3 1 2 3\nREFUSED 9\nDONE\nDONE\nDONE\nREFUSED 14\n12 8 0 2 3 1\nREFUSED 5\n4 4 0 1 3\n",
     );
     check_script(
         "case_j.replay",
         "DONE\nDONE\nDONE\n3 0 0 2 1 2\n5 1 0 2 1 2\n6 2 0 2 1 2\n4 0 0 1 2\n4 0 0 1 2\n4 4 0 1 2\n",
     );
     check_script(
+        "needs.replay",
+        "DONE\nDONE\n1 1 0 1 1\n2 2 0 1 1\n0 0 0 0\n0 0 0 0\n0 0 0 0\n0 0 0 0\n0 0 0 0\n0 0 0 0\n0 0 0 0\nDONE\nDONE\n2 0 0 1 1\n2 0 0 1 1\n1 1 0 1 1\n2 0 0 1 1\n2 0 2 1 1\n",
+    );
+    check_script(
         "refusals.replay",
-        "REFUSED 8\nREFUSED 8\nREFUSED 11\nDONE\nREFUSED 9\nDONE\nREFUSED 11\nREFUSED 9\nREFUSED 5\nREFUSED 13\nREFUSED 14\nREFUSED 14\n0 0 0 0\n",
+        "REFUSED 8\nREFUSED 8\nREFUSED 15\nREFUSED 15\nREFUSED 11\nDONE\nREFUSED 15\nREFUSED 9\nDONE\nREFUSED 11\nREFUSED 9\nREFUSED 5\nREFUSED 13\nREFUSED 14\nREFUSED 14\n0 0 0 0\n",
     );
     check_script(
         "ties.replay",
@@ -71,5 +75,5 @@ fn machines() {
 #[test]
 fn no_example_is_left_out() {
     let path = Path::new(env!("CARGO_MANIFEST_DIR")).join("../examples");
-    assert_eq!(fs::read_dir(path).expect("the folder").count(), 9);
+    assert_eq!(fs::read_dir(path).expect("the folder").count(), 10);
 }

@@ -57,32 +57,120 @@ const SETTLED: [Case; 9] = [
 // Calls after START: the first one is line 6.
 const START: &str = "CORES 1\nPERIOD BUDGET DEADLINE\n4 1 4\n6 2 5\nCALLS\n";
 const SETTLED_CALLS: [Case; 19] = [
-    ("task 0", "RELEASE 0\nFINISH 0\n", "REFUSED 8\nREFUSED 8\n"),
+    (
+        "task 0",
+        "RELEASE 0 1\nFINISH 0\n",
+        "REFUSED 8\nREFUSED 8\n",
+    ),
     ("a task of zeros", "JOIN 0 0 0\n", "REFUSED 5\n"),
     (
         "another word",
         "SLOT 1\nSTOP\nSLOT 1\n",
         "0 0 0 0\nBAD LINE 7\n",
     ),
-    ("lower case", "SLOT 1\nrelease 1\n", "0 0 0 0\nBAD LINE 7\n"),
+    (
+        "lower case",
+        "SLOT 1\nrelease 1 1\n",
+        "0 0 0 0\nBAD LINE 7\n",
+    ),
     ("a letter more", "SLOTS 1\n", "BAD LINE 6\n"),
-    ("a letter less", "RELEAS 1\n", "BAD LINE 6\n"),
+    ("a letter less", "RELEAS 1 1\n", "BAD LINE 6\n"),
     ("no number", "RELEASE\n", "BAD LINE 6\n"),
-    ("two numbers", "RELEASE 1 2\n", "BAD LINE 6\n"),
+    ("two numbers", "FINISH 1 2\n", "BAD LINE 6\n"),
     ("two values of a task", "JOIN 4 1\n", "BAD LINE 6\n"),
     ("four values of a task", "JOIN 4 1 4 4\n", "BAD LINE 6\n"),
-    ("a leading zero", "RELEASE 01\n", "BAD LINE 6\n"),
-    ("a sign", "RELEASE +1\n", "BAD LINE 6\n"),
+    ("a leading zero", "RELEASE 01 1\n", "BAD LINE 6\n"),
+    ("a sign", "RELEASE +1 1\n", "BAD LINE 6\n"),
     ("no digit", "FINISH x\n", "BAD LINE 6\n"),
-    ("two spaces", "RELEASE  1\n", "BAD LINE 6\n"),
-    ("a tab", "RELEASE\t1\n", "BAD LINE 6\n"),
+    ("two spaces", "RELEASE  1 1\n", "BAD LINE 6\n"),
+    ("a tab", "RELEASE\t1 1\n", "BAD LINE 6\n"),
     ("11 digits", "FINISH 10000000000\n", "BAD LINE 6\n"),
     ("above 32 bits", "FINISH 4294967296\n", "BAD LINE 6\n"),
-    ("the largest number", "RELEASE 4294967295\n", "REFUSED 8\n"),
+    (
+        "the largest number",
+        "RELEASE 4294967295 1\n",
+        "REFUSED 8\n",
+    ),
     (
         "the largest task",
         "JOIN 4294967295 4294967295 4294967295\n",
         "REFUSED 5\n",
+    ),
+];
+
+// Releases after START, each with its job's need, e: task 1 takes 1, task 2 takes 1 and 2.
+const SETTLED_RELEASES: [Case; 32] = [
+    ("release, no e", "RELEASE 1\n", "BAD LINE 6\n"),
+    ("release, no e of no task", "RELEASE 9\n", "BAD LINE 6\n"),
+    ("release, a space and no e", "RELEASE 1 \n", "BAD LINE 6\n"),
+    ("release, a third number", "RELEASE 1 1 1\n", "BAD LINE 6\n"),
+    ("release, a third field", "RELEASE 1 1 x\n", "BAD LINE 6\n"),
+    (
+        "release, a trailing space",
+        "RELEASE 1 1 \n",
+        "BAD LINE 6\n",
+    ),
+    ("release, two spaces", "RELEASE 1  1\n", "BAD LINE 6\n"),
+    ("release, a tab", "RELEASE 1\t1\n", "BAD LINE 6\n"),
+    ("release, a comma", "RELEASE 1,1\n", "BAD LINE 6\n"),
+    ("release, byte 13", "RELEASE 1 1\r\n", "BAD LINE 6\n"),
+    ("release, a leading zero", "RELEASE 1 01\n", "BAD LINE 6\n"),
+    ("release, two zeros", "RELEASE 1 00\n", "BAD LINE 6\n"),
+    (
+        "release, 10 digits with zeros",
+        "RELEASE 1 0000000001\n",
+        "BAD LINE 6\n",
+    ),
+    ("release, a sign", "RELEASE 1 +1\n", "BAD LINE 6\n"),
+    ("release, below 0", "RELEASE 1 -1\n", "BAD LINE 6\n"),
+    ("release, no digit", "RELEASE 1 e\n", "BAD LINE 6\n"),
+    ("release, a letter after", "RELEASE 1 1x\n", "BAD LINE 6\n"),
+    (
+        "release, above 32 bits",
+        "RELEASE 1 4294967296\n",
+        "BAD LINE 6\n",
+    ),
+    (
+        "release, 1 above 32 bits",
+        "RELEASE 1 4294967297\n",
+        "BAD LINE 6\n",
+    ),
+    (
+        "release, 11 digits",
+        "RELEASE 1 10000000000\n",
+        "BAD LINE 6\n",
+    ),
+    ("release, not ended", "RELEASE 1 1", "BAD LINE 6\n"),
+    (
+        "release, a bad line after a good one",
+        "RELEASE 2 1\nRELEASE 1\nSLOT 1\n",
+        "DONE\nBAD LINE 7\n",
+    ),
+    ("release, e = C", "RELEASE 1 1\n", "DONE\n"),
+    ("release, e below C", "RELEASE 2 1\n", "DONE\n"),
+    ("release, e of 0", "RELEASE 1 0\n", "REFUSED 15\n"),
+    ("release, e = C + 1", "RELEASE 1 2\n", "REFUSED 15\n"),
+    ("release, e = D", "RELEASE 2 5\n", "REFUSED 15\n"),
+    (
+        "release, 10 digits",
+        "RELEASE 1 1000000000\n",
+        "REFUSED 15\n",
+    ),
+    (
+        "release, the largest e",
+        "RELEASE 1 4294967295\n",
+        "REFUSED 15\n",
+    ),
+    (
+        "release, the largest numbers",
+        "RELEASE 4294967295 4294967295\n",
+        "REFUSED 8\n",
+    ),
+    ("release, zeros", "RELEASE 0 0\n", "REFUSED 8\n"),
+    (
+        "calls after a refused release",
+        "RELEASE 1 0\nRELEASE 1 1\nSLOT 1\n",
+        "REFUSED 15\nDONE\n1 1 0 1 1\n",
     ),
 ];
 
@@ -115,7 +203,7 @@ const SETTLED_SLOTS: [Case; 23] = [
     ),
     (
         "calls after a refused slot",
-        "SLOT 0\nRELEASE 1\nSLOT 1\n",
+        "SLOT 0\nRELEASE 1 1\nSLOT 1\n",
         "REFUSED 14\nDONE\n1 1 0 1 1\n",
     ),
     (
@@ -185,7 +273,7 @@ const UNSETTLED: [Case; 13] = [
 // The same for calls after START.
 const UNSETTLED_CALLS: [Case; 7] = [
     ("CALLS twice", "SLOT 1\nCALLS\n", "0 0 0 0\nBAD LINE 7\n"),
-    ("two zeros", "RELEASE 00\n", "BAD LINE 6\n"),
+    ("two zeros", "RELEASE 00 1\n", "BAD LINE 6\n"),
     (
         "an empty line",
         "SLOT 1\n\nSLOT 1\n",
@@ -197,7 +285,7 @@ const UNSETTLED_CALLS: [Case; 7] = [
         "0 0 0 0\nBAD LINE 7\n",
     ),
     ("byte 13", "SLOT 1\r\n", "BAD LINE 6\n"),
-    ("a trailing space", "RELEASE 1 \n", "BAD LINE 6\n"),
+    ("a trailing space", "RELEASE 1 1 \n", "BAD LINE 6\n"),
     ("a leading space", " SLOT 1\n", "BAD LINE 6\n"),
 ];
 
@@ -219,6 +307,7 @@ fn check(start: &str, cases: &[Case]) {
 fn settled_details() {
     check("", &SETTLED);
     check(START, &SETTLED_CALLS);
+    check(START, &SETTLED_RELEASES);
     check(START, &SETTLED_SLOTS);
 }
 

@@ -104,7 +104,7 @@ fn pieces_make_one_text() {
         let reading = in_pieces(&path("READING", "test_reading"), TABLE, size);
         assert_eq!(reading, oracle::reading_output(TABLE).into_bytes());
     }
-    let script = [b"CORES 2\n", TABLE, b"CALLS\nRELEASE 1\nSLOT 2\n"].concat();
+    let script = [b"CORES 2\n", TABLE, b"CALLS\nRELEASE 1 1\nSLOT 2\n"].concat();
     let replay = in_pieces(&path("REPLAY", "replay"), &script, 5);
     assert_eq!(replay, b"DONE\n1 1 0 1 1\n");
     let zeros = "0 0 0 0 0 0 0 0\n".repeat(31);

@@ -1,7 +1,7 @@
 //! The simulated machine by itself, on machines made by hand: number 0, which no
 //! list of calls from a start can meet (document 01, "Why a call is not carried
 //! out", with changes 3 and 4 of document 02), refusals that leave the machine as it
-//! was, and precedence at the limits of left and budget.
+//! was, releases of every need, and precedence at the limits of left and budget.
 
 use std::collections::BTreeMap;
 
@@ -41,7 +41,7 @@ fn refusals(machine: &Machine) -> [Option<u32>; 4] {
         refusal.number
     };
     [
-        machine.clone().release(2).err().map(number),
+        machine.clone().release(2, 0).err().map(number),
         machine.clone().finish(2).err().map(number),
         machine.clone().slot(0).err().map(number),
         machine.clone().join(Task::new(9, 0, 5)).err().map(number),
@@ -119,7 +119,7 @@ fn sound_machines_at_the_limits() {
 fn number_14_leaves_the_machine() {
     let fresh = Machine::start(&[Task::new(9, 2, 5)], 3).expect("a start");
     let mut released = fresh.clone();
-    released.release(1).expect("a release");
+    released.release(1, 2).expect("a release");
     for before in [fresh, released] {
         for cores in [0, 1, 2, 17, 18, 256 + 3, 65_536 + 3, u32::MAX] {
             let mut machine = before.clone();
@@ -137,7 +137,7 @@ fn number_14_leaves_the_machine() {
 fn runners_of_a_slot() {
     let mut machine = Machine::start(&[Task::new(9, 2, 5); 5], 2).expect("a start");
     for number in [1, 3, 4] {
-        machine.release(number).expect("a release");
+        machine.release(number, 2).expect("a release");
     }
     for (cores, ran, runners) in [
         (2, 0b101, 2),
@@ -184,20 +184,49 @@ fn precedence_of_two_jobs() {
     }
 }
 
-// A release of every record from 0 to one above each limit: 616 of them. Sound are
-// 10 closed ones, one of them due, and 2 * (9 + 8 + 7 + 6 + 5) open ones, none due.
-#[test]
-fn releases_of_every_record() {
+// How often each answer to a release with this need comes, over every record from 0 to
+// one above each limit: 616 of them.
+fn answers_to_releases(need: u32) -> BTreeMap<Option<u32>, u32> {
     let mut answers = BTreeMap::new();
     for record in 0..2 * 7 * 4 * 11 {
         let (open, left) = (record % 2 == 1, record / 2 % 7);
         let (budget, gap) = (record / 14 % 4, record / 56);
-        let refusal = machine(job(open, left, budget, gap)).release(1).err();
+        let refusal = machine(job(open, left, budget, gap)).release(1, need).err();
         let number = refusal.map(|refusal| refusal.number);
         *answers.entry(number).or_insert(0) += 1;
     }
-    let expected = [(None, 1), (Some(0), 616 - 10 - 70), (Some(9), 9 + 70)];
-    assert_eq!(answers, BTreeMap::from(expected));
+    answers
+}
+
+// Sound are 10 closed ones, one of them due, and 2 * (9 + 8 + 7 + 6 + 5) open ones, none
+// due. A need outside 1 to C, 2, is refused by 15 of all of them.
+#[test]
+fn releases_of_every_record() {
+    let unsound = (Some(0), 616 - 10 - 70);
+    let accepted = [(None, 1), unsound, (Some(9), 9 + 70)];
+    let refused = [unsound, (Some(15), 10 + 70)];
+    for need in [1, 2] {
+        assert_eq!(answers_to_releases(need), BTreeMap::from(accepted));
+    }
+    for need in [0, 3, 5, 9, 256 + 1, 65_536 + 2, (1 << 31) + 1, u32::MAX] {
+        assert_eq!(answers_to_releases(need), BTreeMap::from(refused));
+    }
+}
+
+// Budget e, left D, gap T, and the core stays. Number 15 leaves the machine.
+#[test]
+fn the_record_after_a_release() {
+    let before = machine(on_core(CLOSED, 3));
+    for need in [1, 2] {
+        let mut after = before.clone();
+        assert_eq!(after.release(1, need), Ok(()));
+        assert_eq!(after.jobs, [on_core(job(true, 5, need, 9), 3)]);
+    }
+    for need in [0, 3, u32::MAX] {
+        let mut after = before.clone();
+        assert_eq!(after.release(1, need), Err(Refusal::whole(15)));
+        assert_eq!(after, before);
+    }
 }
 
 #[test]

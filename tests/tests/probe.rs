@@ -18,7 +18,7 @@ const PROBES: u64 = 50_000;
 
 // Every kind of answer that can happen, and no other may: number 10 is among the
 // others.
-const KINDS: [&str; 16] = [
+const KINDS: [&str; 17] = [
     "FINISH DONE",
     "FINISH REFUSED 0",
     "FINISH REFUSED 11",
@@ -30,6 +30,7 @@ const KINDS: [&str; 16] = [
     "JOIN REFUSED 5",
     "RELEASE DONE",
     "RELEASE REFUSED 0",
+    "RELEASE REFUSED 15",
     "RELEASE REFUSED 8",
     "RELEASE REFUSED 9",
     "SLOT",

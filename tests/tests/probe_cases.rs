@@ -45,7 +45,7 @@ fn jobs_beyond_their_other_limits() {
 #[test]
 fn an_open_job_with_a_gap_equal_to_its_left() {
     let line = [6, 3, 5, 1, 4, 2, 4, 0];
-    check_one(line, Release(1), "REFUSED 9", line);
+    check_one(line, Release(1, 3), "REFUSED 9", line);
     check_one(line, Finish(1), "DONE", [6, 3, 5, 0, 0, 0, 4, 0]);
     check_one(line, Slot(1), "1 0 0 1 1", [6, 3, 5, 1, 3, 1, 3, 1]);
     let joined = [line, [90, 1, 90, 0, 0, 0, 0, 0]];
@@ -60,7 +60,7 @@ fn an_open_job_with_a_gap_that_no_call_leaves() {
     check_one(line, Slot(1), "1 1 0 1 1", [9, 2, 5, 0, 0, 0, 3, 1]);
     let line = [9, 2, 5, 1, 3, 2, 9, 0];
     check_one(line, Slot(1), "1 0 0 1 1", [9, 2, 5, 1, 2, 1, 8, 1]);
-    check_one(line, Release(1), "REFUSED 9", line);
+    check_one(line, Release(1, 2), "REFUSED 9", line);
 }
 
 // Gap 2 at left 1 and budget 3: below the budget and below D, and sound. The job
@@ -76,7 +76,7 @@ fn a_gap_below_the_budget() {
 fn a_late_job_whose_gap_ends_with_it() {
     let late = [9, 3, 5, 0, 0, 0, 0, 1];
     check_one([9, 3, 5, 1, 1, 3, 1, 0], Slot(1), "1 0 1 1 1", late);
-    check_one(late, Release(1), "DONE", [9, 3, 5, 1, 5, 3, 9, 1]);
+    check_one(late, Release(1, 3), "DONE", [9, 3, 5, 1, 5, 3, 9, 1]);
 }
 
 // A closed task's gap is not compared with D or C: 0 to T are sound, T + 1 is not.
@@ -84,13 +84,13 @@ fn a_late_job_whose_gap_ends_with_it() {
 fn gaps_of_a_closed_task() {
     check_one(
         [9, 2, 5, 0, 0, 0, 0, 0],
-        Release(1),
+        Release(1, 2),
         "DONE",
         [9, 2, 5, 1, 5, 2, 9, 0],
     );
     for gap in [1, 4, 5, 9] {
         let line = [9, 2, 5, 0, 0, 0, gap, 0];
-        check_one(line, Release(1), "REFUSED 9", line);
+        check_one(line, Release(1, 2), "REFUSED 9", line);
         check_one(line, Finish(1), "REFUSED 11", line);
         check_one(line, Slot(1), "0 0 0 0", [9, 2, 5, 0, 0, 0, gap - 1, 0]);
     }
@@ -119,7 +119,7 @@ fn a_gap_below_left_in_one_of_32_tasks() {
         let mut lines = [sound; 32];
         check(
             &machine(32, 16, &lines),
-            Release(2),
+            Release(2, 3),
             "REFUSED 9",
             &machine(32, 16, &lines),
         );
@@ -145,9 +145,9 @@ fn a_gap_below_left_past_the_count() {
     check(&before, Finish(1), "DONE", &after);
     let due = machine(1, 1, &[[9, 2, 5, 0, 0, 0, 0, 0], past]);
     let after = machine(1, 1, &[[9, 2, 5, 1, 5, 2, 9, 0], past]);
-    check(&due, Release(1), "DONE", &after);
+    check(&due, Release(1, 2), "DONE", &after);
     check(&before, Finish(2), "REFUSED 8", &before);
-    check(&before, Release(2), "REFUSED 8", &before);
+    check(&before, Release(2, 3), "REFUSED 8", &before);
 }
 
 // The join writes its own entry whole, and keeps the one after it.

@@ -82,7 +82,7 @@ const BAD_ENTRIES: [&str; 16] = [
     "SLOT 1",
 ];
 
-const BAD_CALLS: [&str; 33] = [
+const BAD_CALLS: [&str; 40] = [
     "SLOT",
     "SLOT ",
     "SLOT 1 ",
@@ -97,10 +97,17 @@ const BAD_CALLS: [&str; 33] = [
     "slot 1",
     "STOP 1",
     "RELEASE",
-    "RELEASE  1",
+    "RELEASE 1",
     "RELEASE 1 ",
-    "RELEASE 1 1",
-    "RELEASES 1",
+    "RELEASE  1 1",
+    "RELEASE 1  1",
+    "RELEASE 1 1 ",
+    "RELEASE 1 1 1",
+    "RELEASE 1\t1",
+    "RELEASE 1 1\r",
+    "RELEASE1 1",
+    "RELEASES 1 1",
+    "release 1 1",
     "FINISH",
     "FINISH  1",
     "FINISH 1 ",
@@ -180,7 +187,7 @@ fn bad_lines(number: usize) -> Vec<String> {
     match number {
         1 => lines.extend(with_bad_numbers("MACHINE 1 1", 1)),
         LINES => {
-            for call in ["SLOT 1", "RELEASE 1", "FINISH 1", "JOIN 4 1 4"] {
+            for call in ["SLOT 1", "RELEASE 1 1", "FINISH 1", "JOIN 4 1 4"] {
                 lines.extend(with_bad_numbers(call, 1));
             }
         }
@@ -322,8 +329,18 @@ fn good_texts() {
     let cases = [
         ("SLOT 1", "1 0 0 1 1", "MACHINE 1 1\n9 2 5 1 4 1 8 1\n"),
         ("SLOT 0", "REFUSED 14", "MACHINE 1 1\n9 2 5 1 5 2 9 0\n"),
-        ("RELEASE 1", "REFUSED 9", "MACHINE 1 1\n9 2 5 1 5 2 9 0\n"),
-        ("RELEASE 0", "REFUSED 8", "MACHINE 1 1\n9 2 5 1 5 2 9 0\n"),
+        ("RELEASE 1 2", "REFUSED 9", "MACHINE 1 1\n9 2 5 1 5 2 9 0\n"),
+        (
+            "RELEASE 1 0",
+            "REFUSED 15",
+            "MACHINE 1 1\n9 2 5 1 5 2 9 0\n",
+        ),
+        (
+            "RELEASE 1 4294967295",
+            "REFUSED 15",
+            "MACHINE 1 1\n9 2 5 1 5 2 9 0\n",
+        ),
+        ("RELEASE 0 0", "REFUSED 8", "MACHINE 1 1\n9 2 5 1 5 2 9 0\n"),
         ("FINISH 1", "DONE", "MACHINE 1 1\n9 2 5 0 0 0 9 0\n"),
         (
             "FINISH 4294967295",

@@ -37,9 +37,167 @@ fn broken(place: usize, fault: &str) -> Result<Kept, String> {
     Err(format!("call {place}: {fault}"))
 }
 
+// One task of T 7, C 3, D 5 on 1 core, admitted.
+fn of_one_task(calls: &[Call]) -> Script {
+    let script = Script {
+        cores: 1,
+        table: write(&[Task::new(7, 3, 5)], ORDERS[0]),
+        calls: calls.to_vec(),
+    };
+    assert!(applies(&script));
+    script
+}
+
+// A release with this need and five slots, which print so many runs, each with the tasks
+// that finish in it, and then nothing.
+fn after_a_release(need: u32, finished: &[u32]) -> Result<Kept, String> {
+    let mut calls = vec![Release(1, need)];
+    calls.extend([Slot(1); 5]);
+    let runs = finished
+        .iter()
+        .map(|finished| format!("1 {finished} 0 1 1\n"));
+    let idle = "0 0 0 0\n".repeat(5 - finished.len());
+    let printed = format!("DONE\n{}{idle}", runs.collect::<String>());
+    check(&of_one_task(&calls), &printed)
+}
+
+// One job that ran fewer slots than C.
+fn kept_by_fewer_runs() -> Result<Kept, String> {
+    Ok(Kept {
+        by_running: 1,
+        by_fewer_runs_than_c: 1,
+        ..Kept::default()
+    })
+}
+
+// The whole C is 3: two runs and a finish close a job of need 2, one run one of need 1.
+#[test]
+fn jobs_that_ran_their_need() {
+    assert_eq!(after_a_release(3, &[0, 0, 1]), kept(1, 0, 0));
+    assert_eq!(after_a_release(2, &[0, 1]), kept_by_fewer_runs());
+    assert_eq!(after_a_release(1, &[1]), kept_by_fewer_runs());
+    // What is printed of the task afterwards plays no part.
+    assert_eq!(after_a_release(2, &[0, 1, 0, 1]), kept_by_fewer_runs());
+}
+
+#[test]
+fn jobs_that_ran_fewer_slots_than_their_need() {
+    let expected = broken(6, "a job of task 1 is not closed");
+    assert_eq!(after_a_release(2, &[1]), expected);
+    assert_eq!(after_a_release(3, &[1]), expected);
+    assert_eq!(after_a_release(3, &[0, 1]), expected);
+    assert_eq!(after_a_release(1, &[]), expected);
+}
+
+// The e-th run must say that the task finished: a later one, the C-th among them, or an
+// earlier one does not count.
+#[test]
+fn jobs_whose_last_run_does_not_finish() {
+    let expected = broken(6, "a job of task 1 is not closed");
+    assert_eq!(after_a_release(2, &[0, 0]), expected);
+    assert_eq!(after_a_release(2, &[1, 0]), expected);
+    assert_eq!(after_a_release(2, &[0, 0, 1]), expected);
+    assert_eq!(after_a_release(1, &[0, 0, 1]), expected);
+    assert_eq!(after_a_release(1, &[0, 1, 1]), expected);
+    assert_eq!(after_a_release(3, &[0, 0, 0, 1]), expected);
+}
+
+// The fifth slot is the D-th. One job has its need by then, the other a slot later.
+#[test]
+fn a_need_run_by_the_deadline() {
+    let mut calls = vec![Release(1, 2)];
+    calls.extend([Slot(1); 6]);
+    let in_time = "DONE\n0 0 0 0\n0 0 0 0\n0 0 0 0\n1 0 0 1 1\n1 1 0 1 1\n0 0 0 0\n";
+    assert_eq!(check(&of_one_task(&calls), in_time), kept_by_fewer_runs());
+    let too_late = "DONE\n0 0 0 0\n0 0 0 0\n0 0 0 0\n0 0 0 0\n1 0 0 1 1\n1 1 0 1 1\n";
+    let expected = broken(6, "a job of task 1 is not closed");
+    assert_eq!(check(&of_one_task(&calls), too_late), expected);
+}
+
+// A refused release starts no job, whatever it names, and changes no need.
+#[test]
+fn refused_releases_start_no_job() {
+    let mut calls = vec![Release(1, 0), Release(1, 4), Release(2, 0)];
+    calls.extend([Slot(1); 5]);
+    let idle = "0 0 0 0\n".repeat(5);
+    let printed = format!("REFUSED 15\nREFUSED 15\nREFUSED 8\n{idle}");
+    assert_eq!(check(&of_one_task(&calls), &printed), kept(0, 0, 0));
+    let mut calls = vec![Release(1, 2), Release(1, 3), Release(1, 1), Release(1, 0)];
+    calls.extend([Slot(1); 5]);
+    let refused = "DONE\nREFUSED 9\nREFUSED 9\nREFUSED 15\n";
+    let printed = format!("{refused}1 0 0 1 1\n1 1 0 1 1\n0 0 0 0\n0 0 0 0\n0 0 0 0\n");
+    assert_eq!(check(&of_one_task(&calls), &printed), kept_by_fewer_runs());
+    let one = format!("{refused}1 1 0 1 1\n0 0 0 0\n0 0 0 0\n0 0 0 0\n0 0 0 0\n");
+    let expected = broken(9, "a job of task 1 is not closed");
+    assert_eq!(check(&of_one_task(&calls), &one), expected);
+}
+
+// Needs 3 and then 1: two runs and a finish would close neither.
+#[test]
+fn each_job_has_its_own_need() {
+    let mut calls = vec![Release(1, 3)];
+    calls.extend([Slot(1); 7]);
+    calls.extend([Release(1, 1), Slot(1), Slot(1)]);
+    let idle = "0 0 0 0\n".repeat(4);
+    let printed =
+        format!("DONE\n1 0 0 1 1\n1 0 0 1 1\n1 1 0 1 1\n{idle}DONE\n1 1 0 1 1\n0 0 0 0\n");
+    let expected = Kept {
+        by_running: 2,
+        by_fewer_runs_than_c: 1,
+        ..Kept::default()
+    };
+    assert_eq!(check(&of_one_task(&calls), &printed), Ok(expected));
+    let longer = printed.replace("DONE\n1 1 0 1 1\n0 0 0 0\n", "DONE\n1 0 0 1 1\n1 1 0 1 1\n");
+    let expected = Kept {
+        by_running: 1,
+        undecided: 1,
+        ..Kept::default()
+    };
+    assert_eq!(check(&of_one_task(&calls), &longer), Ok(expected));
+    calls.extend([Slot(1); 3]);
+    let expected = broken(14, "a job of task 1 is not closed");
+    let longer = format!("{longer}0 0 0 0\n0 0 0 0\n0 0 0 0\n");
+    assert_eq!(check(&of_one_task(&calls), &longer), expected);
+}
+
+// Only a finish closes a job of need 0: no run is its last.
+#[test]
+fn an_accepted_need_of_0() {
+    let expected = broken(6, "a job of task 1 is not closed");
+    assert_eq!(after_a_release(0, &[]), expected);
+    assert_eq!(after_a_release(0, &[1]), expected);
+    assert_eq!(after_a_release(0, &[0, 0, 1]), expected);
+    let calls = [Release(1, 0), Finish(1), Slot(1)];
+    let printed = "DONE\nDONE\n0 0 0 0\n";
+    assert_eq!(check(&of_one_task(&calls), printed), kept(0, 1, 0));
+}
+
+#[test]
+fn a_finish_before_all_of_the_need() {
+    let mut calls = vec![Release(1, 2), Slot(1), Finish(1)];
+    calls.extend([Slot(1); 4]);
+    let idle = "0 0 0 0\n".repeat(4);
+    let printed = format!("DONE\n1 0 0 1 1\nDONE\n{idle}");
+    assert_eq!(check(&of_one_task(&calls), &printed), kept(0, 1, 0));
+    let refused = printed.replacen("1 1\nDONE", "1 1\nREFUSED 11", 1);
+    let expected = broken(7, "a job of task 1 is not closed");
+    assert_eq!(check(&of_one_task(&calls), &refused), expected);
+}
+
+// D and C are the joined task's, e is the release's.
+#[test]
+fn the_need_of_a_joined_task() {
+    let calls = [Join(Task::new(7, 2, 3)), Release(3, 1), SLOT, SLOT, SLOT];
+    let printed = "DONE\nDONE\n0 0 0 0\n0 0 0 0\n4 4 0 1 1\n";
+    assert_eq!(check(&script(&calls), printed), kept_by_fewer_runs());
+    let open = printed.replace("4 4 0 1 1", "4 0 0 1 1");
+    let expected = broken(5, "a job of task 3 is not closed");
+    assert_eq!(check(&script(&calls), &open), expected);
+}
+
 #[test]
 fn jobs_closed_in_time() {
-    let once = script(&[Release(1), SLOT, SLOT, SLOT, SLOT]);
+    let once = script(&[Release(1, 2), SLOT, SLOT, SLOT, SLOT]);
     let at_once = "DONE\n1 0 0 1 1\n1 1 0 1 1\n0 0 0 0\n0 0 0 0\n";
     let at_last = "DONE\n0 0 0 0\n0 0 0 0\n1 0 0 1 1\n1 1 0 1 1\n";
     assert_eq!(check(&once, at_once), kept(1, 0, 0));
@@ -48,7 +206,15 @@ fn jobs_closed_in_time() {
 
 #[test]
 fn jobs_closed_by_a_finish() {
-    let calls = [Release(1), Release(2), SLOT, Finish(1), SLOT, SLOT, SLOT];
+    let calls = [
+        Release(1, 2),
+        Release(2, 1),
+        SLOT,
+        Finish(1),
+        SLOT,
+        SLOT,
+        SLOT,
+    ];
     let printed = "DONE\nDONE\n1 0 0 1 1\nDONE\n2 2 0 1 1\n0 0 0 0\n0 0 0 0\n";
     assert_eq!(check(&script(&calls), printed), kept(1, 1, 0));
     // A refused finish closes nothing.
@@ -59,7 +225,7 @@ fn jobs_closed_by_a_finish() {
 
 #[test]
 fn too_few_slots_decide_nothing() {
-    let calls = [Release(1), SLOT, SLOT, SLOT];
+    let calls = [Release(1, 2), SLOT, SLOT, SLOT];
     let printed = "DONE\n0 0 0 0\n0 0 0 0\n0 0 0 0\n";
     assert_eq!(check(&script(&calls), printed), kept(0, 0, 1));
     assert_eq!(check(&script(&[]), ""), kept(0, 0, 0));
@@ -67,14 +233,14 @@ fn too_few_slots_decide_nothing() {
 
 #[test]
 fn a_late_job() {
-    let calls = [Release(2), SLOT, SLOT, SLOT];
+    let calls = [Release(2, 1), SLOT, SLOT, SLOT];
     let printed = "DONE\n0 0 0 0\n0 0 0 0\n0 0 2 0\n";
     assert_eq!(check(&script(&calls), printed), broken(4, "late jobs, 2"));
 }
 
 #[test]
 fn a_machine_that_runs_nobody() {
-    let calls = [Release(2), SLOT, SLOT, SLOT];
+    let calls = [Release(2, 1), SLOT, SLOT, SLOT];
     let printed = "DONE\n0 0 0 0\n0 0 0 0\n0 0 0 0\n";
     let expected = broken(4, "a job of task 2 is not closed");
     assert_eq!(check(&script(&calls), printed), expected);
@@ -82,7 +248,7 @@ fn a_machine_that_runs_nobody() {
 
 #[test]
 fn a_job_finished_before_its_budget() {
-    let calls = [Release(1), SLOT, SLOT, SLOT, SLOT];
+    let calls = [Release(1, 2), SLOT, SLOT, SLOT, SLOT];
     let printed = "DONE\n1 1 0 1 1\n0 0 0 0\n0 0 0 0\n0 0 0 0\n";
     let expected = broken(5, "a job of task 1 is not closed");
     assert_eq!(check(&script(&calls), printed), expected);
@@ -90,7 +256,7 @@ fn a_job_finished_before_its_budget() {
 
 #[test]
 fn a_job_that_runs_and_does_not_finish() {
-    let calls = [Release(1), SLOT, SLOT, SLOT, SLOT];
+    let calls = [Release(1, 2), SLOT, SLOT, SLOT, SLOT];
     let printed = "DONE\n1 0 0 1 1\n1 0 0 1 1\n1 1 0 1 1\n0 0 0 0\n";
     let expected = broken(5, "a job of task 1 is not closed");
     assert_eq!(check(&script(&calls), printed), expected);
@@ -99,7 +265,7 @@ fn a_job_that_runs_and_does_not_finish() {
 // A finish or a run before the release plays no part.
 #[test]
 fn only_calls_after_the_release_count() {
-    let calls = [SLOT, Finish(2), Release(2), SLOT, SLOT, SLOT];
+    let calls = [SLOT, Finish(2), Release(2, 1), SLOT, SLOT, SLOT];
     let printed = "2 2 0 1 1\nDONE\nDONE\n0 0 0 0\n0 0 0 0\n0 0 0 0\n";
     let expected = broken(6, "a job of task 2 is not closed");
     assert_eq!(check(&script(&calls), printed), expected);
@@ -111,7 +277,7 @@ fn joined_tasks() {
     let calls = [
         Join(Task::new(9, 9, 9)),
         Join(Task::new(7, 1, 2)),
-        Release(3),
+        Release(3, 1),
         SLOT,
         SLOT,
     ];
@@ -133,7 +299,7 @@ fn counted(printed: &str) -> String {
 // The job is closed by its fourth accepted slot, the sixth with the refused ones.
 #[test]
 fn refused_slots_are_no_slots_in_d() {
-    let calls = [Release(1), SLOT, BELOW, SLOT, ABOVE, SLOT, SLOT];
+    let calls = [Release(1, 2), SLOT, BELOW, SLOT, ABOVE, SLOT, SLOT];
     let printed = "DONE\n0 0 0 0\nREFUSED 14\n0 0 0 0\nREFUSED 14\n1 0 0 1 1\n1 1 0 1 1\n";
     let expected = Kept {
         by_running: 1,
@@ -149,7 +315,7 @@ fn refused_slots_are_no_slots_in_d() {
 // Three accepted slots of four decide nothing, however many are refused.
 #[test]
 fn refused_slots_decide_nothing() {
-    let calls = [Release(1), SLOT, SLOT, SLOT, BELOW, ABOVE];
+    let calls = [Release(1, 2), SLOT, SLOT, SLOT, BELOW, ABOVE];
     let printed = "DONE\n0 0 0 0\n0 0 0 0\n0 0 0 0\nREFUSED 14\nREFUSED 14\n";
     assert_eq!(check(&script(&calls), printed), kept(0, 0, 1));
     let expected = broken(5, "a job of task 1 is not closed");
@@ -159,7 +325,7 @@ fn refused_slots_decide_nothing() {
 // The fourth accepted slot decides, wherever refused ones stand.
 #[test]
 fn a_job_not_closed_past_refused_slots() {
-    let calls = [Release(1), BELOW, SLOT, SLOT, ABOVE, SLOT, SLOT];
+    let calls = [Release(1, 2), BELOW, SLOT, SLOT, ABOVE, SLOT, SLOT];
     let printed = "DONE\nREFUSED 14\n1 0 0 1 1\n0 0 0 0\nREFUSED 14\n0 0 0 0\n0 0 0 0\n";
     let expected = broken(7, "a job of task 1 is not closed");
     assert_eq!(check(&script(&calls), printed), expected);
@@ -168,10 +334,10 @@ fn a_job_not_closed_past_refused_slots() {
 // Only those between a job's release and its closing are noted of it.
 #[test]
 fn refused_slots_before_and_after_a_job() {
-    let calls = [ABOVE, Release(2), SLOT, BELOW, Release(1), SLOT, SLOT];
+    let calls = [ABOVE, Release(2, 1), SLOT, BELOW, Release(1, 2), SLOT, SLOT];
     let printed = "REFUSED 14\nDONE\n2 2 0 1 1\nREFUSED 14\nDONE\n1 0 0 1 1\n1 1 0 1 1\n";
     assert_eq!(check(&script(&calls), printed), kept(2, 0, 0));
-    let calls = [Release(1), SLOT, BELOW, Finish(1)];
+    let calls = [Release(1, 2), SLOT, BELOW, Finish(1)];
     let expected = Kept {
         by_a_finish: 1,
         past_refused_slots: 1,
@@ -184,7 +350,7 @@ fn refused_slots_before_and_after_a_job() {
 // A slot counts whatever k it names.
 #[test]
 fn slots_of_more_cores() {
-    let calls = [Release(1), Slot(16), Slot(3), SLOT, Slot(16)];
+    let calls = [Release(1, 2), Slot(16), Slot(3), SLOT, Slot(16)];
     let printed = "DONE\n0 0 0 0\n0 0 0 0\n1 0 0 1 1\n1 1 0 1 1\n";
     assert_eq!(check(&script(&calls), printed), kept(1, 0, 0));
     let idle = printed.replacen("1 1 0 1 1", "0 0 0 0", 1);
@@ -195,7 +361,7 @@ fn slots_of_more_cores() {
 // The demand does not read the cores, whatever they are.
 #[test]
 fn cores_play_no_part() {
-    let calls = [Release(1), SLOT, SLOT, SLOT, SLOT];
+    let calls = [Release(1, 2), SLOT, SLOT, SLOT, SLOT];
     for core in ["", " 1", " 2", " 0", " 17", " 1 1"] {
         let printed = format!("DONE\n1 0 0 1 1\n1 1 0 1{core}\n0 0 0 0\n0 0 0 0\n");
         assert_eq!(check(&script(&calls), &printed), kept(1, 0, 0), "{core}");
@@ -207,7 +373,7 @@ fn cores_play_no_part() {
 
 #[test]
 fn answers_of_another_form() {
-    let calls = [Release(1), SLOT];
+    let calls = [Release(1, 2), SLOT];
     assert_eq!(check(&script(&calls), "DONE\n"), broken(2, "no answer"));
     let expected = broken(2, "no answer of a slot: DONE");
     assert_eq!(check(&script(&calls), "DONE\nDONE\n"), expected);

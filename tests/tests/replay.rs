@@ -13,14 +13,16 @@ use edzl_tests::promise::Kept;
 use edzl_tests::script::{Answer, Call, Script, lines};
 use edzl_tests::tasks::MOST_TASKS;
 use edzl_tests::ties::Ties;
-use edzl_tests::{assignment, cores, parts, program, promise, scripts, settings, ties};
+use edzl_tests::{
+    assignment, cores, need_events, parts, program, promise, scripts, settings, ties,
+};
 
 const SCRIPTS: u64 = 20_000;
 
 // Every kind of answer that can happen, and no other may. Among the others are
 // number 0, since calls from a start leave no unsound machine, and number 10, which
 // stays empty: the gap of an open job is above 0, so that 9 refuses its release.
-const KINDS: [&str; 20] = [
+const KINDS: [&str; 21] = [
     "CALLS BAD LINE",
     "FINISH DONE",
     "FINISH REFUSED 11",
@@ -30,6 +32,7 @@ const KINDS: [&str; 20] = [
     "JOIN REFUSED 13",
     "JOIN REFUSED 5",
     "RELEASE DONE",
+    "RELEASE REFUSED 15",
     "RELEASE REFUSED 8",
     "RELEASE REFUSED 9",
     "SLOT",
@@ -43,15 +46,16 @@ const KINDS: [&str; 20] = [
     "TABLE REFUSED 7",
 ];
 
-// What must happen among them with the events of a slot's cores, and nothing else
-// may: no late job on an admitted table, no tie there among more urgent tasks than
+// What must happen among them with the events of a slot's cores and of needs, and
+// nothing else may: no late job on an admitted table, no tie there among more urgent tasks than
 // cores, and no accepted join on a refused one.
-const EVENTS: [&str; 33] = [
+const EVENTS: [&str; 34] = [
     "a core above k, given up",
     "a core kept from the slot before",
     "a finish before the job ran",
     "a finish of a job that ran",
     "a job closed by a finish in time, table admitted",
+    "a job closed by fewer runs than C in time, table admitted",
     "a job closed by running in time, table admitted",
     "a job closed in time past a refused slot, table admitted",
     "a job closed in time, too late if refused slots counted, table admitted",
@@ -105,6 +109,9 @@ const TIES: [[&str; 2]; 4] = [
 // Scripts for which each of them that can happen must be met once on average.
 const SCRIPTS_FOR_A_TIE: u64 = 10;
 
+// The same for each event of needs.
+const SCRIPTS_FOR_A_NEED: u64 = 20;
+
 // How often each kind and each event was met.
 #[derive(Default)]
 struct Tally {
@@ -148,7 +155,8 @@ impl Tally {
         self.finishes(script, answers);
         self.joins(script, answers, admitted);
         self.ties(script, admitted);
-        for name in assignment::met(script) {
+        let needs = need_events::met(script).into_iter();
+        for name in assignment::met(script).into_iter().chain(needs) {
             self.event(name, 1);
         }
     }
@@ -179,7 +187,7 @@ impl Tally {
         let (m, mut open) = (script.cores, 0u32);
         for (call, answer) in script.calls.iter().zip(answers) {
             match (call, answer) {
-                (Call::Release(number), Answer::Done) => open |= 1 << (number - 1),
+                (Call::Release(number, _), Answer::Done) => open |= 1 << (number - 1),
                 (Call::Finish(number), Answer::Done) => open &= !(1 << (number - 1)),
                 (Call::Slot(k), Answer::Ran(slot)) => {
                     self.accepted_slot(m, *k, open.count_ones());
@@ -238,12 +246,14 @@ impl Tally {
             "a job open at the last call, table admitted",
             "a job closed in time past a refused slot, table admitted",
             "a job closed in time, too late if refused slots counted, table admitted",
+            "a job closed by fewer runs than C in time, table admitted",
         ];
         self.event(names[0], kept.by_running);
         self.event(names[1], kept.by_a_finish);
         self.event(names[2], kept.undecided);
         self.event(names[3], kept.past_refused_slots);
         self.event(names[4], kept.too_late_if_counted);
+        self.event(names[5], kept.by_fewer_runs_than_c);
     }
 
     // The runners of a script, by what became of their cores.
@@ -260,7 +270,7 @@ impl Tally {
         for (call, answer) in script.calls.iter().zip(answers) {
             match (call, answer) {
                 (Call::Slot(_), Answer::Ran(slot)) => ran |= slot.ran,
-                (Call::Release(number), Answer::Done) => ran &= !(1 << (number - 1)),
+                (Call::Release(number, _), Answer::Done) => ran &= !(1 << (number - 1)),
                 (Call::Finish(number), Answer::Done) => {
                     let did_run = ran >> (number - 1) & 1;
                     self.event("a finish of a job that ran", u64::from(did_run));
@@ -327,11 +337,16 @@ impl Tally {
         );
         let met: BTreeSet<&str> = self.events.keys().copied().collect();
         let of_slots = assignment::EVENTS.iter().map(|(name, _)| *name);
-        let expected: BTreeSet<&str> = EVENTS.into_iter().chain(of_slots).collect();
+        let expected = EVENTS.into_iter().chain(of_slots);
+        let expected: BTreeSet<&str> = expected.chain(need_events::names()).collect();
         assert_eq!(met, expected, "the events met, and the expected ones");
-        let ties = TIES.as_flattened().iter();
-        for (name, times) in ties.filter_map(|name| self.events.get_key_value(name)) {
-            let least = scripts / SCRIPTS_FOR_A_TIE;
+        self.require_often(TIES.iter().flatten().copied(), scripts / SCRIPTS_FOR_A_TIE);
+        self.require_often(need_events::names(), scripts / SCRIPTS_FOR_A_NEED);
+    }
+
+    // Those of these events that were met at all.
+    fn require_often(&self, names: impl Iterator<Item = &'static str>, least: u64) {
+        for (name, times) in names.filter_map(|name| self.events.get_key_value(name)) {
             assert!(*times >= least, "{times} times, not {least}: {name}");
         }
     }
@@ -339,7 +354,7 @@ impl Tally {
 
 fn kind(call: Call, answer: Answer) -> String {
     let name = match call {
-        Call::Release(_) => "RELEASE",
+        Call::Release(..) => "RELEASE",
         Call::Finish(_) => "FINISH",
         Call::Slot(_) => "SLOT",
         Call::Join(_) => "JOIN",

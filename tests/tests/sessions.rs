@@ -11,12 +11,13 @@ const CASE_J: [Task; 3] = [Task::new(6, 2, 3), Task::new(6, 2, 3), Task::new(6, 
 const CASE_J_PRINTED: &str = "DONE\nDONE\nDONE\n\
     3 0 0 2 1 2\n5 1 0 2 1 2\n6 2 0 2 1 2\n4 0 0 1 2\n4 0 0 1 2\n4 4 0 1 2\n";
 
-// Every task released at the start of each of its periods, slots on m cores.
+// Every task released with its whole budget at the start of each of its periods, slots
+// on m cores.
 fn released_periodically(cores: u32, table: &[Task], slots: u32) -> Script {
     let mut calls = Vec::new();
     for slot in 0..slots {
         let due = (1..).zip(table).filter(|(_, task)| slot % task.period == 0);
-        calls.extend(due.map(|(number, _)| Call::Release(number)));
+        calls.extend(due.map(|(number, task)| Call::Release(number, task.budget)));
         calls.push(Call::Slot(cores));
     }
     script(cores, table, calls)
@@ -42,7 +43,7 @@ fn case_k() {
 #[test]
 fn case_k_as_bytes() {
     let text = b"CORES 1\nPERIOD BUDGET DEADLINE\n5 5 5\n5 5 5\nCALLS\n\
-        RELEASE 1\nRELEASE 2\nSLOT 1\nFINISH 1\nSLOT 1\nJOIN 9 1 9\nSLOT 1\n";
+        RELEASE 1 5\nRELEASE 2 5\nSLOT 1\nFINISH 1\nSLOT 1\nJOIN 9 1 9\nSLOT 1\n";
     let table = [Task::new(5, 5, 5), Task::new(5, 5, 5)];
     let mut script = released_at_once(1, &table, 3);
     script.calls.insert(3, Call::Finish(1));
@@ -58,8 +59,8 @@ fn case_k_as_bytes() {
 #[test]
 fn the_gap_outlasts_the_job() {
     let text = b"CORES 1\nPERIOD BUDGET DEADLINE\n3 1 2\nCALLS\n\
-        RELEASE 1\nSLOT 1\nRELEASE 1\nSLOT 1\nRELEASE 1\nSLOT 1\nRELEASE 1\nFINISH 1\n\
-        RELEASE 1\nFINISH 1\nSLOT 1\nSLOT 1\nRELEASE 1\nSLOT 1\nRELEASE 1\n";
+        RELEASE 1 1\nSLOT 1\nRELEASE 1 1\nSLOT 1\nRELEASE 1 1\nSLOT 1\nRELEASE 1 1\nFINISH 1\n\
+        RELEASE 1 1\nFINISH 1\nSLOT 1\nSLOT 1\nRELEASE 1 1\nSLOT 1\nRELEASE 1 1\n";
     let expected =
         b"DONE\n1 1 0 1 1\nREFUSED 9\n0 0 0 0\nREFUSED 9\n0 0 0 0\nDONE\nDONE\nREFUSED 9\n\
         REFUSED 11\n0 0 0 0\n0 0 0 0\nREFUSED 9\n0 0 0 0\nDONE\n";
@@ -71,7 +72,7 @@ fn the_gap_outlasts_the_job() {
 fn urgent_jobs_go_by_left() {
     let table = [Task::new(5, 5, 5), Task::new(3, 3, 3)];
     let mut script = released_at_once(1, &table, 5);
-    script.calls.extend([Call::Finish(1), Call::Release(1)]);
+    script.calls.extend([Call::Finish(1), Call::Release(1, 5)]);
     let expected = "DONE\nDONE\n2 0 0 1 1\n2 0 0 1 1\n2 2 0 1 1\n1 0 0 1 1\n1 0 1 1 1\n\
         REFUSED 11\nDONE\n";
     check(&script, expected);
@@ -94,8 +95,8 @@ fn a_refused_slot_changes_no_other_answer() {
 #[test]
 fn refused_slots_take_no_time() {
     let text = b"CORES 2\nPERIOD BUDGET DEADLINE\n4 2 2\nCALLS\n\
-        RELEASE 1\nSLOT 1\nSLOT 1\nSLOT 2\nSLOT 2\n\
-        SLOT 1\nSLOT 17\nRELEASE 1\nSLOT 2\nSLOT 0\nRELEASE 1\nSLOT 2\nRELEASE 1\n";
+        RELEASE 1 2\nSLOT 1\nSLOT 1\nSLOT 2\nSLOT 2\n\
+        SLOT 1\nSLOT 17\nRELEASE 1 2\nSLOT 2\nSLOT 0\nRELEASE 1 2\nSLOT 2\nRELEASE 1 2\n";
     let expected = b"DONE\nREFUSED 14\nREFUSED 14\n1 0 0 1 1\n1 1 0 1 1\n\
         REFUSED 14\nREFUSED 14\nREFUSED 9\n0 0 0 0\nREFUSED 14\nREFUSED 9\n0 0 0 0\nDONE\n";
     assert_eq!(program::replay_output(text), expected);
@@ -181,7 +182,7 @@ fn more_open_tasks_than_m_and_fewer_than_k() {
 #[test]
 fn all_16_cores_and_one_open_task_or_none() {
     let text = b"CORES 1\nPERIOD BUDGET DEADLINE\n4 2 4\n4 1 4\nCALLS\n\
-        SLOT 16\nRELEASE 2\nSLOT 16\nSLOT 16\nRELEASE 1\nSLOT 16\nSLOT 1\n";
+        SLOT 16\nRELEASE 2 1\nSLOT 16\nSLOT 16\nRELEASE 1 2\nSLOT 16\nSLOT 1\n";
     let expected = b"0 0 0 0\nDONE\n2 2 0 1 1\n0 0 0 0\nDONE\n1 0 0 1 1\n1 1 0 1 1\n";
     assert_eq!(program::replay_output(text), expected);
 }

@@ -43,10 +43,10 @@ fn the_longer_job_first_with_the_lower_number() {
 fn the_longer_of_two_urgent_jobs_first() {
     let table = [Task::new(9, 2, 2), Task::new(9, 3, 3), Task::new(9, 1, 1)];
     let calls = [
-        Release(2),
-        Release(3),
+        Release(2, 3),
+        Release(3, 1),
         Slot(1),
-        Release(1),
+        Release(1, 2),
         Slot(1),
         Slot(1),
     ];
@@ -88,7 +88,7 @@ fn the_budget_owed_and_not_the_tables_c() {
 #[test]
 fn the_budget_owed_against_a_larger_c() {
     let table = [Task::new(20, 5, 10), Task::new(20, 3, 7)];
-    let mut calls = vec![Release(1), Slot(1), Slot(1), Slot(1), Release(2)];
+    let mut calls = vec![Release(1, 5), Slot(1), Slot(1), Slot(1), Release(2, 3)];
     calls.extend([Slot(1); 5]);
     let before = alone(&["1 0 0"; 3]);
     let after = alone(&["2 0 0", "1 0 0", "2 0 0", "1 1 0", "2 2 0"]);
@@ -101,7 +101,7 @@ fn the_budget_owed_against_a_larger_c() {
 #[test]
 fn the_budget_owed_against_a_larger_c_when_urgent() {
     let table = [Task::new(20, 6, 6), Task::new(20, 5, 5)];
-    let mut calls = vec![Release(1), Slot(1), Release(2)];
+    let mut calls = vec![Release(1, 6), Slot(1), Release(2, 5)];
     calls.extend([Slot(1); 5]);
     let after = alone(&["1 0 0", "2 0 0", "1 0 0", "2 0 0", "1 0 3"]);
     let expected = format!("DONE\n1 0 0 1 1\nDONE\n{after}");
@@ -132,7 +132,7 @@ fn equal_in_all_three_the_lower_number() {
     let table = [Task::new(9, 2, 7); 3];
     let slots = ["1 0 0", "2 0 0", "4 0 0", "1 1 0", "2 2 0", "4 4 0"];
     check_on_one_core(&table, &slots);
-    let mut calls = vec![Release(3), Release(2), Release(1)];
+    let mut calls = vec![Release(3, 2), Release(2, 2), Release(1, 2)];
     calls.extend([Slot(1); 6]);
     let expected = "DONE\n".repeat(3) + &alone(&slots);
     check(&script(1, &table, calls), &expected);
@@ -162,9 +162,9 @@ fn the_longer_job_takes_the_core_beside_an_urgent_one() {
 #[test]
 fn a_joined_task_that_owes_more() {
     let text = b"CORES 1\nPERIOD BUDGET DEADLINE\n20 2 10\nCALLS\n\
-        JOIN 20 3 10\nRELEASE 1\nRELEASE 2\nSLOT 1\nSLOT 1\nSLOT 1\nFINISH 2\nSLOT 1\n";
+        JOIN 20 3 10\nRELEASE 1 2\nRELEASE 2 3\nSLOT 1\nSLOT 1\nSLOT 1\nFINISH 2\nSLOT 1\n";
     let slots = [Slot(1); 3];
-    let mut calls = vec![Join(Task::new(20, 3, 10)), Release(1), Release(2)];
+    let mut calls = vec![Join(Task::new(20, 3, 10)), Release(1, 2), Release(2, 3)];
     calls.extend(slots);
     calls.extend([Finish(2), Slot(1)]);
     let script = script(1, &[Task::new(20, 2, 10)], calls);

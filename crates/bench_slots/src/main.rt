@@ -65,10 +65,11 @@ fn may_release(job: Job) -> bool {
 }
 
 // The checksum of the reports of so many slots of a machine of `count` tasks, each with the machine's cores. Before each slot every task whose
-// release would be accepted is released: a turn of the loop looks at one task, and after the last task it plays the slot.
+// release would be accepted is released with its whole budget: a turn of the loop looks at one task, and after the last task it plays the slot.
 fn play(machine: Machine, count: usize, slots: u64) -> u64
     requires { ⌜ count ≤ maxTasks ⌝ }
 {
+    let table = machine.table;
     let mut after = machine;
     let mut sum: u64 = 0;
     let mut number: u64 = 0;
@@ -76,9 +77,10 @@ fn play(machine: Machine, count: usize, slots: u64) -> u64
     while number < slots {
         if next < count {
             let job = after.jobs[next];
+            let task = table.tasks[next];
             next += 1;
             if may_release(job) {
-                let answer = after.release(next as u32);
+                let answer = after.release(next as u32, task.budget);
                 after = answer.machine;
             }
         } else {

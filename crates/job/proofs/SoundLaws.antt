@@ -1,9 +1,9 @@
 -- What a sound job is: `gap-within`; `closed-numbers`, of a closed one; `open-numbers`, of an open one; `free-closed`, that one without a gap is
 -- closed; `was-sound`, that it was sound before change 3 too. The other way round: `closed-sound` and `open-sound`. Jobs that are sound: a fresh one
 -- (`fresh-sound`), one that was released (`released-sound`), closed (`ended-sound`) or has passed a slot (`slot-sound`).
-use Prim.Native.Nat.{_-_, _≤_}
+use Prim.Native.Nat.{ℕ, _-_, _≤_}
 use native.Mathlib.Omega.{arith}
-use mathlib.Core.Path.{_≡_, refl, _∙_}
+use mathlib.Core.Path.{_≡_, refl}
 use mathlib.Core.Bool.{Bool, true, false, _&&_}
 use lib.Dec.{eqb, leb}
 use borrow.Author.Tests.{eqb-true, eq-eqb, leb-true, le-leb}
@@ -17,6 +17,7 @@ use Rattle.job.specs.Slot.{charged, aged, settled}
 use Rattle.job.specs.Sound.{openSound, closedSound, gapCoversLeft, jobSound}
 use Rattle.job.specs.FormerSound.{formerJobSound}
 use Rattle.job.specs.declared.job.Job.{Job}
+use Rattle.job.proofs.NeedLaws.{NeedRange}
 use Rattle.job.proofs.SlotLaws.{settled-closed, settled-finished, settled-late, settled-open}
 
 -- a closed job's left and budget
@@ -96,16 +97,17 @@ pub fresh-sound : (t : Task) → jobSound t freshJob ≡ true
 unfolding freshJob
 fresh-sound t = closed-sound t freshJob (omega arith) refl (record { left-none = refl; budget-none = refl })
 
-pub released-sound : (t : Task) → inRange t ≡ true → jobSound t (releasedJob t) ≡ true
+-- whatever the need, if a release takes it
+pub released-sound : (t : Task) (need : ℕ) → inRange t ≡ true → NeedRange t need → jobSound t (releasedJob t need) ≡ true
 unfolding releasedJob
-released-sound t in-range =
+released-sound t need in-range needed =
     let r = range-of t in-range in
-    open-sound t (releasedJob t) (omega arith) refl
+    open-sound t (releasedJob t need) (omega arith) refl
     (record {
       left-some = omega (arith, r);
       left-fits = omega arith;
-      budget-some = r .budget-some;
-      budget-fits = omega arith;
+      budget-some = needed .need-some;
+      budget-fits = needed .need-fits;
       gap-covers = omega (arith, r);
     })
 

@@ -1,4 +1,5 @@
--- The record of one task's job: document 01, "The slot machine".
+-- The record of one task's job: document 01, "The slot machine"; a release by document 02, change 5.
+use Prim.Native.Nat.{ℕ}
 use mathlib.Core.Bool.{Bool, true, false, _&&_}
 use lib.Dec.{leb}
 use Rattle.tasks.specs.declared.task.Task.{Task}
@@ -8,9 +9,13 @@ use Rattle.job.specs.declared.job.Job.{Job}
 unfoldable pub freshJob : Job
 freshJob = record { «open» = false; left = 0; budget = 0; gap = 0 }
 
--- "it becomes open, left = D_i, budget = C_i, gap = T_i"
-unfoldable pub releasedJob : Task → Job
-releasedJob t = record { «open» = true; left = t .deadline; budget = t .budget; gap = t .period }
+-- change 5: "e of 0 or above C", the other way round; need is document 02's word for e, the most slots that one job runs
+unfoldable pub needInRange : Task → (need : ℕ) → Bool
+needInRange t need = leb 1 need && leb need (t .budget)
+
+-- "it becomes open, left = D_i, .. gap = T_i"; change 5: "budget starts at e"
+unfoldable pub releasedJob : Task → (need : ℕ) → Job
+releasedJob t need = record { «open» = true; left = t .deadline; budget = need; gap = t .period }
 
 -- "its job closes; gap stays", and "A closed task has left 0 and budget 0"
 unfoldable pub closedJob : Job → Job

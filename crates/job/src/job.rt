@@ -1,7 +1,7 @@
 // The record of one task's job.
 use tasks::task::Task;
 ghost use mathlib.Core.Path.{_≡_};
-ghost use Rattle.job.specs.Job.{freshJob, releasedJob, closedJob, isUrgent};
+ghost use Rattle.job.specs.Job.{freshJob, needInRange, releasedJob, closedJob, isUrgent};
 
 // One task's job: whether it is open, the slots to its deadline, the slots still owed, and the slots until the next release is allowed.
 pub struct Job {
@@ -23,15 +23,25 @@ pub fn fresh_job() -> Job
     }
 }
 
+// Whether a job of the task may need so many slots: 1 to the task's budget.
+pub fn need_in_range(task: Task, need: u32) -> bool
+    ensures { λ r. ⌜ r ≡ needInRange task need ⌝ }
+{
+    if need < 1 {
+        return false;
+    }
+    need <= task.budget
+}
+
 impl Job {
-    // A job of the task that starts now.
-    pub fn released(task: Task) -> Self
-        ensures { λ r. ⌜ r ≡ releasedJob task ⌝ }
+    // A job of the task that starts now and needs so many slots.
+    pub fn released(task: Task, need: u32) -> Self
+        ensures { λ r. ⌜ r ≡ releasedJob task need ⌝ }
     {
         Job {
             open: true,
             left: task.deadline,
-            budget: task.budget,
+            budget: need,
             gap: task.period,
         }
     }

@@ -13,6 +13,7 @@ use Rattle.tasks.specs.declared.outcome.Outcome.the-variants.{Done, Refused}
 use Rattle.tasks.specs.Limits.{maxTasks}
 use Rattle.tasks.specs.Refusals.{unsoundMachine}
 use Rattle.tasks.specs.Task.{inRange}
+use Rattle.job.specs.Job.{needInRange}
 use Rattle.machine.specs.Machine.{taskAt, jobAt, withJob, inTable}
 use Rattle.machine.specs.Pick.{openCount, waiting, precedes, candidates, pick, runnerCount, runners}
 use Rattle.machine.specs.Slot.{passed, ranCount, noReport, slotReport, afterSlot}
@@ -63,10 +64,13 @@ module _ (m : Machine) where
         → bareAnswer (cond (not (sound m)) (refuse m unsoundMachine) a) ≡ cond (not (bareSound (bare m))) (bareRefuse (bare m) unsoundMachine) b
     past-0 a b e = rw (ok, was-sound) e
 
-    release-as-before : (number : ℕ) → bareAnswer (release m number) ≡ bareRelease (bare m) number
+    release-as-before : (number need : ℕ) → bareAnswer (release m number need) ≡ bareRelease (bare m) number need
     unfolding release bareRelease bare bareInTable inTable bareJobAt jobAt bareTaskAt taskAt bareAnswer bareReport done bareDone withJob bareWithJob noReport bareNoReport
-    release-as-before number =
-        past-0 _ _ (past (not (inTable m number)) _ _ _ _ (refused _) (past (ltb 0 (jobAt m (number - 1) .gap)) _ _ _ _ (refused _) refl))
+    release-as-before number need =
+        past-0 _ _
+        (past (not (inTable m number)) _ _ _ _ (refused _)
+        (past (not (needInRange (taskAt m (number - 1)) need)) _ _ _ _ (refused _)
+        (past (ltb 0 (jobAt m (number - 1) .gap)) _ _ _ _ (refused _) refl)))
 
     finish-as-before : (number : ℕ) → bareAnswer (finish m number) ≡ bareFinish (bare m) number
     unfolding finish bareFinish bare bareInTable inTable bareJobAt jobAt bareAnswer bareReport done bareDone withJob bareWithJob noReport bareNoReport
@@ -91,7 +95,7 @@ module _ (m : Machine) where
 
     pub call-as-before : (call : Call) → bareAnswer (step m call) ≡ bareStep (bare m) call
     unfolding step bareStep
-    call-as-before (Release number) = release-as-before number
+    call-as-before (Release number need) = release-as-before number need
     call-as-before (Finish number) = finish-as-before number
     call-as-before (Slot k) = slot-as-before k
     call-as-before (Join t) = join-as-before t

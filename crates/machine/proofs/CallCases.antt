@@ -11,7 +11,7 @@ use Rattle.tasks.specs.declared.task.Task.{Task}
 use Rattle.tasks.specs.declared.outcome.Outcome.{Outcome}
 use Rattle.tasks.specs.declared.outcome.Outcome.the-variants.{Done, Refused}
 use Rattle.tasks.specs.Limits.{maxTasks, maxCores}
-use Rattle.tasks.specs.Refusals.{unsoundMachine, taskOutOfRange, noSuchTask, releasedTooSoon, jobNotOpen, tableFull, notAdmitted, slotCoresOutOfRange}
+use Rattle.tasks.specs.Refusals.{unsoundMachine, taskOutOfRange, noSuchTask, releasedTooSoon, jobNotOpen, tableFull, notAdmitted, slotCoresOutOfRange, needOutOfRange}
 use Rattle.tasks.specs.Task.{inRange}
 use Rattle.tasks.specs.Table.{withTask}
 use Rattle.laws.proofs.CaseSplits.{not-both, by-cond}
@@ -19,6 +19,7 @@ use Rattle.tasks.proofs.OutcomeLaws.{Numbered}
 use Rattle.judge.specs.Judge.{judged}
 use Rattle.judge.proofs.Outcome.{judged-numbered}
 use Rattle.job.specs.Job.{closedJob, releasedJob}
+use Rattle.job.proofs.NeedLaws.{NeedRange, need-range}
 use Rattle.machine.specs.Machine.{taskAt, jobAt, withJob}
 use Rattle.machine.specs.Pick.{runners}
 use Rattle.machine.specs.Slot.{noReport, slotReport, afterSlot}
@@ -47,8 +48,8 @@ abbrev pub slotAnswer : Machine → (ran : List Bool) → (cores : List ℕ) →
 slotAnswer m ran cores = accepted (withAssigned (afterSlot m ran) cores) (slotReport m ran cores)
 
 -- the machine after an accepted release, and after an accepted finish
-unfoldable pub afterRelease : Machine → (number : ℕ) → Machine
-afterRelease m number = withJob m (number - 1) (releasedJob (taskAt m (number - 1)))
+unfoldable pub afterRelease : Machine → (number need : ℕ) → Machine
+afterRelease m number need = withJob m (number - 1) (releasedJob (taskAt m (number - 1)) need)
 
 unfoldable pub afterFinish : Machine → (number : ℕ) → Machine
 afterFinish m number = withJob m (number - 1) (closedJob (jobAt m (number - 1)))
@@ -59,8 +60,9 @@ pub record Refusal (m : Machine) (number : ℕ) : Type 0 where
   pub small : number < 100
 
 -- what an accepted release, finish, slot and join found
-pub record ReleaseTaken (m : Machine) (number : ℕ) : Type 0 where
+pub record ReleaseTaken (m : Machine) (number need : ℕ) : Type 0 where
   pub task : KnownTask m number
+  pub needed : NeedRange (taskAt m (number - 1)) need
   pub was-free : jobAt m (number - 1) .gap ≡ 0
   pub was-closed : jobAt m (number - 1) .«open» ≡ false
 
@@ -82,7 +84,7 @@ module _
     (m : Machine)
     (P : Call → Answer → Type 0)
     (on-refusal : (call : Call) (number place : ℕ) → Refusal m number → P call (refusal m number place))
-    (on-release : (number : ℕ) → ReleaseTaken m number → P (Release number) (accepted (afterRelease m number) noReport))
+    (on-release : (number need : ℕ) → ReleaseTaken m number need → P (Release number need) (accepted (afterRelease m number need) noReport))
     (on-finish : (number : ℕ) → FinishTaken m number → P (Finish number) (accepted (afterFinish m number) noReport))
     (on-slot : (k : ℕ) (ran : List Bool) (cores : List ℕ) → SlotTaken m k ran cores → P (Slot k) (slotAnswer m ran cores))
     (on-join : (t : Task) → JoinTaken m t → P (Join t) (accepted (withJoined m t) noReport))
@@ -112,8 +114,11 @@ module _
     by-verdict t (Refused number place) admits numbered taken = on-refusal _ _ _ (by-number number (numbered .number-is number place refl))
 
     -- a task without a gap is closed, as the machine is sound
-    release-taken : (number : ℕ) → KnownTask m number → jobAt m (number - 1) .gap ≡ 0 → ReleaseTaken m number
-    release-taken number task free = record { task = task; was-free = free; was-closed = sound-free m (task .is-sound) (number - 1) (task .inside) free }
+    release-taken :
+        (number need : ℕ) → KnownTask m number → NeedRange (taskAt m (number - 1)) need → jobAt m (number - 1) .gap ≡ 0
+        → ReleaseTaken m number need
+    release-taken number need task needed free =
+        record { task = task; needed = needed; was-free = free; was-closed = sound-free m (task .is-sound) (number - 1) (task .inside) free }
 
     -- a slot that is not refused
     slot-taken : (k : ℕ) → sound m ≡ true → slotCoresInRange m k ≡ true → SlotTaken m k (runners m k) (slotAssignment m k)
@@ -126,11 +131,13 @@ module _
 
     pub by-call : (call : Call) → P call (step m call)
     unfolding step release finish slot join refuse done afterRelease afterFinish
-    by-call (Release number) =
+    by-call (Release number need) =
         past-0 _ λ ok.
         past _ _ noSuchTask (omega arith) λ known.
+        past _ _ needOutOfRange (omega arith) λ needed.
         past _ (ltb 0 (jobAt m (number - 1) .gap)) releasedTooSoon (omega arith) λ free.
-        on-release number (release-taken number (known-task m number ok (not-false _ known)) (omega (arith, ltb-false)))
+        on-release number need
+        (release-taken number need (known-task m number ok (not-false _ known)) (need-range _ need (not-false _ needed)) (omega (arith, ltb-false)))
     by-call (Finish number) =
         past-0 _ λ ok.
         past _ _ noSuchTask (omega arith) λ known.

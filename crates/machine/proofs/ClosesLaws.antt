@@ -6,7 +6,6 @@ use mathlib.Core.Bool.{Bool, true, false, cond, _||_, or-comm, or-assoc, or-true
 use mathlib.Core.List.{List, _∷_}
 use native.Mathlib.Omega.{arith}
 use borrow.Author.Tests.{le-leb, lt-leb, ne-eqb}
-use Rattle.tasks.specs.declared.task.Task.{Task}
 use Rattle.machine.specs.Play.{Entry}
 use Rattle.machine.specs.InTime.{acceptedSlot, acceptedFinish, saysRan, saysFinished, upToSlot, anyFinish, ranWhole, closedBySlot}
 
@@ -14,9 +13,9 @@ use Rattle.machine.specs.InTime.{acceptedSlot, acceptedFinish, saysRan, 
 unfoldable pub closes : (number l b : ℕ) → List Entry → Bool
 closes number l b log = anyFinish number (upToSlot l log) || ranWhole number b (upToSlot l log)
 
-pub closes-by-slot : (number : ℕ) (k : Task) (log : List Entry) → closedBySlot number k log ≡ closes number (k .deadline) (k .budget) log
+pub closes-by-slot : (number need deadline : ℕ) (log : List Entry) → closedBySlot number need deadline log ≡ closes number deadline need log
 unfolding closes closedBySlot
-closes-by-slot number k log = or-comm (ranWhole number (k .budget) (upToSlot (k .deadline) log)) (anyFinish number (upToSlot (k .deadline) log))
+closes-by-slot number need deadline log = or-comm (ranWhole number need (upToSlot deadline log)) (anyFinish number (upToSlot deadline log))
 
 module _ (number l b : ℕ) (e : Entry) (log : List Entry) (l-some : 1 ≤ l) where
   goes-in : upToSlot l (e ∷ log) ≡ e ∷ upToSlot (cond (acceptedSlot e) (l - 1) l) log

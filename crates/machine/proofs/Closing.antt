@@ -66,14 +66,16 @@ module _ (m : Machine) (i l b : ℕ) (going : Going m i l b) where
     unfolding AllClose ClosesAfter acceptedSlot isDone
     after-other call m' no-slot kept' inside' same = past _ _ no-slot (rest m' l b (going-same going m' kept' inside' same))
 
-    after-release : (number : ℕ) → ReleaseTaken m number → ClosesAfter i l b calls (Release number) (accepted (afterRelease m number) noReport)
+    after-release :
+        (number need : ℕ) → ReleaseTaken m number need
+        → ClosesAfter i l b calls (Release number need) (accepted (afterRelease m number need) noReport)
     unfolding isSlot tasksOf firstTasks afterRelease withJob jobsOf
-    after-release number taken =
+    after-release number need taken =
         by-equal i (number - 1)
         (λ e. not-both (jobAt m i .«open») (going .is-open) (rw e (taken .was-closed)))
         (λ ne.
-        after-other _ _ refl (kept-release m (going .kept) number taken) (going .inside)
-        (release-step m (going .kept .all-jobs) number taken .rest i (going .inside) ne))
+        after-other _ _ refl (kept-release m (going .kept) number need taken) (going .inside)
+        (release-step m (going .kept .all-jobs) number need taken .rest i (going .inside) ne))
 
     after-finish : (number : ℕ) → FinishTaken m number → ClosesAfter i l b calls (Finish number) (accepted (afterFinish m number) noReport)
     unfolding ClosesIn ClosesAfter acceptedFinish isDone isSlot isFinishOf tasksOf firstTasks afterFinish withJob

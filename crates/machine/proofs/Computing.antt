@@ -20,7 +20,7 @@ use Rattle.machine.specs.Calls.{done, refuse, startAfter, start, release
 use Rattle.machine.specs.Play.{play}
 use Rattle.machine.specs.InTime.{isSlot, acceptedSlot}
 use Rattle.machine.specs.Mask.{mask}
-use Rattle.machine.specs.Cases.{task, tableWith, tableOf, slotLines, sameLines, releases, session, holds, line, example}
+use Rattle.machine.specs.Cases.{task, tableWith, tableOf, slotLines, sameLines, releases, allReleased, session, holds, line, example}
 
 unfoldable pub computing : Bool
 unfolding
@@ -34,5 +34,5 @@ unfolding
     jobsSound sound
     done refuse startAfter start release finish slotCoresInRange slot withJoined joinAfter join step play
     isSlot acceptedSlot
-    task tableWith tableOf mask slotLines sameLines releases session holds line example
+    task tableWith tableOf mask slotLines sameLines releases allReleased session holds line example
 computing = true

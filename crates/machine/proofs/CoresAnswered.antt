@@ -40,7 +40,7 @@ unfolding slotReport isDone
 each-fit m =
     by-call m (λ call answer. (k : ℕ) → call ≡ Slot k → isDone (answer .outcome) ≡ true → CoresFit k (answer .report))
     (λ call number place told k e d. not-both false d refl)
-    (λ number taken k e d. clash cc)
+    (λ number need taken k e d. clash cc)
     (λ number taken k e d. clash cc)
     (λ k' ran cores taken k e d.
     let same : k' ≡ k = cc in
@@ -65,7 +65,7 @@ unfolding afterRelease afterFinish withJob withJoined afterSlot withAssigned
 length-kept m =
     by-call m (λ call answer. length (answer .machine .assigned) ≡ length (m .assigned))
     (λ call number place told. refl)
-    (λ number taken. refl)
+    (λ number need taken. refl)
     (λ number taken. refl)
     (λ k ran cores taken. length-replaced (λ i. getD cores i 0) (m .assigned) (m .table .count))
     (λ t taken. length-set (m .assigned) (m .table .count) 0)
@@ -79,7 +79,7 @@ each-recorded m all =
     (λ call answer. isSlot call ≡ true → isDone (answer .outcome) ≡ true → (i : ℕ) → i < m .table .count
     → coreAt (answer .machine) i ≡ getD (answer .report .assigned) i 0)
     (λ call number place told is d. not-both false d refl)
-    (λ number taken is. not-both false is refl)
+    (λ number need taken is. not-both false is refl)
     (λ number taken is. not-both false is refl)
     (λ k ran cores taken is d i h.
     replaced-at (λ j. getD cores j 0) (m .assigned) 0 (m .table .count) i h
@@ -101,7 +101,7 @@ record-kept m =
     by-call m
     (λ call answer. (isSlot call && isDone (answer .outcome)) ≡ false → (i : ℕ) → i < m .table .count → coreAt (answer .machine) i ≡ coreAt m i)
     (λ call number place told no i h. refl)
-    (λ number taken no i h. refl)
+    (λ number need taken no i h. refl)
     (λ number taken no i h. refl)
     (λ k ran cores taken no. not-both true refl no)
     (λ t taken no i h. getD-set-other (m .assigned) (m .table .count) i 0 0 (λ e. omega arith))

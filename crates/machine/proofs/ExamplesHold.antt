@@ -1,8 +1,9 @@
--- The examples all hold (`examples-hold`, `core-examples-hold`, `claims-hold`). Demand 3's claim is not empty: it speaks of a release whose job runs and finishes
--- (`not-empty`), and it is false of a log with a late job (`late-refuted`).
-use Prim.Native.Nat.{ℕ, _-_, _≤_}
+-- The examples all hold (`examples-hold`, `core-examples-hold`, `need-examples-hold`, `claims-hold`). Demand 3's claim is not empty: it speaks of a release,
+-- with a need below the budget, whose job runs and finishes (`not-empty`); and it is false of a log with a late job (`late-refuted`) and of one with a job
+-- that does not finish when it has run what its release named (`unclosed-refuted`).
+use Prim.Native.Nat.{ℕ, _-_, _≤_, _<_}
 use mathlib.Core.Path.{_≡_, refl}
-use mathlib.Core.Bool.{true}
+use mathlib.Core.Bool.{Bool, true, false}
 use mathlib.Core.List.{List, [], _∷_, _++_}
 use lib.ListN.{getD, take, drop, replicate}
 use native.Mathlib.Omega.{arith}
@@ -13,26 +14,33 @@ use Rattle.laws.proofs.CaseSplits.{not-both}
 use Rattle.judge.specs.Judge.{judged}
 use Rattle.tasks.specs.Outcome.{isDone}
 use Rattle.machine.specs.Slot.{noReport}
+use Rattle.job.specs.FormerSound.{formerJobSound}
 use Rattle.machine.specs.Calls.{start}
+use Rattle.machine.specs.FormerRelease.{wholeJob, formerJobsSound, formerSound, formerRelease}
 use Rattle.machine.specs.Play.{Entry, play, machineAfter}
 use Rattle.machine.specs.InTime.{isFinishOf, acceptedFinish, saysRan, saysFinished, slotCount, upToSlot, ranWhole, anyFinish, tableAfter, joinedBy, closedBySlot, InTime, Promise}
-use Rattle.machine.specs.Cases.{tableOf, releases, session, example}
+use Rattle.machine.specs.Cases.{task, tableOf, session, example}
 use Rattle.machine.specs.Examples.{answers, refusalBefore, refusals, runnerCounts, runIs, ignoredIs, many, manyIs, pressed, pressedCalls, ignoredSlot, atPlace0, emptyRefusals, withoutTasks, madeByHand, allKinds, whole, overtaken, ignored, examples, slotOf, idle, ran, ranLast, accepted, refused, closedIn, claims}
 use Rattle.cores.specs.Examples.{sameNumbers, allTrue}
 use Rattle.machine.specs.Machine.{coreAt}
 use Rattle.machine.specs.CoreExamples.{coreLines, sameLists, coresAre, three, everySlot, recording, recordAfter, elseNoCores, coreExamples}
+use Rattle.machine.specs.NeedExamples.{soonAndLong, twice, heldBack, heldBackCalls, jobAfter, opensWith, needExamples}
 use Rattle.machine.specs.declared.call.Call.{Call}
-use Rattle.machine.specs.declared.call.Call.the-variants.{Release, Slot}
+use Rattle.machine.specs.declared.call.Call.the-variants.{Release, Slot, Join}
 use Rattle.machine.proofs.Computing.{computing}
 use Rattle.machine.proofs.InTimeHolds.{promise}
 
 pub examples-hold : allTrue examples ≡ true
-unfolding computing answers refusalBefore refusals runnerCounts sameNumbers runIs ignoredIs many manyIs pressed pressedCalls ignoredSlot atPlace0 emptyRefusals withoutTasks madeByHand allKinds whole overtaken ignored examples allTrue
+unfolding computing answers refusalBefore refusals runnerCounts sameNumbers runIs ignoredIs many manyIs pressed pressedCalls ignoredSlot atPlace0 emptyRefusals withoutTasks madeByHand allKinds whole overtaken ignored wholeJob formerJobSound formerJobsSound formerSound formerRelease examples allTrue
 examples-hold = refl
 
 pub core-examples-hold : allTrue coreExamples ≡ true
 unfolding computing coreAt machineAfter answers refusalBefore refusals sameNumbers allTrue coreLines sameLists coresAre three everySlot recording recordAfter elseNoCores coreExamples
 core-examples-hold = refl
+
+pub need-examples-hold : allTrue needExamples ≡ true
+unfolding computing machineAfter answers refusalBefore refusals sameNumbers runIs ignoredIs atPlace0 emptyRefusals saysRan saysFinished upToSlot ranWhole acceptedFinish isFinishOf anyFinish closedBySlot soonAndLong twice jobAfter opensWith heldBack heldBackCalls needExamples allTrue
+need-examples-hold = refl
 
 pub claims-hold : allTrue claims ≡ true
 unfolding computing answers pressed pressedCalls saysRan saysFinished slotCount upToSlot ranWhole acceptedFinish isFinishOf anyFinish closedBySlot tableAfter joinedBy slotOf idle ran ranLast accepted refused closedIn claims allTrue
@@ -45,20 +53,52 @@ late-refuted claim =
     let log = session whole 1 5 in
     not-both true refl (claim .none-late (take 6 log) [] (getD log 6 (record { call = Slot 1; outcome = Done; report = noReport })) refl refl 1)
 
+-- a slot of a log made by hand in which task 4 runs, and what it says of its finishing
+pub fourthRan : (finished : Bool) → Entry
+fourthRan finished =
+    record {
+      call = Slot 2;
+      outcome = Done;
+      report =
+          record {
+            ran = replicate 3 false ++ true ∷ [];
+            finished = replicate 3 false ++ finished ∷ [];
+            late = [];
+            runners = 1;
+            assigned = [];
+          };
+    }
+
+-- a log made by hand: task 4, which joined, is released with a need of 2, below its budget, and in the three slots to its deadline it runs three times and
+-- finishes with the third; the claim fails of that release
+pub unclosed-refuted :
+    (InTime (tableOf example)
+    (accepted (Release 1 1) ∷ accepted (Join (task 9 3 3)) ∷ accepted (Release 4 2) ∷ fourthRan false ∷ fourthRan false ∷ fourthRan true ∷ []))
+    → ⊥
+unfolding computing accepted fourthRan saysRan saysFinished slotCount upToSlot ranWhole acceptedFinish isFinishOf anyFinish closedBySlot tableAfter joinedBy
+unclosed-refuted claim =
+    not-both false
+    (claim .all-closed (accepted (Release 1 1) ∷ accepted (Join (task 9 3 3)) ∷ []) (fourthRan false ∷ fourthRan false ∷ fourthRan true ∷ [])
+    (accepted (Release 4 2)) 4 2 refl refl refl (omega arith))
+    refl
+
 -- an admitted table and calls whose log has what demand 3 speaks of
 pub record NotEmpty : Type 0 where
   pub table : Table
   pub cores : ℕ
   pub calls : List Call
   pub admitted : judged table cores .admits ≡ true
-  -- the log, cut at a release of the task with this number
+  -- the log, cut at a release of the task with this number, which names this need
   pub number : ℕ
+  pub need : ℕ
   pub before : List Entry
   pub entry : Entry
   pub after : List Entry
   pub log : play (start table cores .machine) calls ≡ before ++ entry ∷ after
-  pub called : entry .call ≡ Release number
+  pub called : entry .call ≡ Release number need
   pub released : isDone (entry .outcome) ≡ true
+  -- the need is below the task's budget
+  pub below : need < getD (tableAfter table before .tasks) (number - 1) zeroTask .budget
   pub enough-slots : getD (tableAfter table before .tasks) (number - 1) zeroTask .deadline ≤ slotCount after
   -- entries after it: a slot in which the task runs, and one that reports it finished
   pub ran-at : ℕ
@@ -66,9 +106,9 @@ pub record NotEmpty : Type 0 where
   pub finished-at : ℕ
   pub finished : saysFinished number (getD after finished-at entry) ≡ true
 
--- on 2 cores, the three tasks of "The table above" are released and eight slots follow; the release is that of task 3
+-- on 2 cores, the three tasks of "The table above" are released and eight slots follow; the release is that of task 3, with a need of 4 of its 6
 exampleCalls : List Call
-exampleCalls = releases 3 ++ replicate 8 (Slot 2)
+exampleCalls = Release 1 1 ∷ Release 2 2 ∷ Release 3 4 ∷ replicate 8 (Slot 2)
 
 pub not-empty : NotEmpty
 unfolding computing answers exampleCalls saysRan saysFinished slotCount tableAfter joinedBy
@@ -80,25 +120,27 @@ not-empty =
       calls = exampleCalls;
       admitted = refl;
       number = 3;
+      need = 4;
       before = take 2 entries;
-      entry = record { call = Release 3; outcome = Done; report = noReport };
+      entry = record { call = Release 3 4; outcome = Done; report = noReport };
       after = drop 3 entries;
       log = refl;
       called = refl;
       released = refl;
+      below = omega arith;
       enough-slots = omega arith;
       ran-at = 1;
       ran = refl;
-      finished-at = 6;
+      finished-at = 4;
       finished = refl;
     }
 
 -- what the promise says of that release
 pub not-empty-closed :
     (w : NotEmpty)
-    → let k = getD (tableAfter (w .table) (w .before) .tasks) (w .number - 1) zeroTask in
-    closedBySlot (w .number) k (w .after) ≡ true
+    → let deadline = getD (tableAfter (w .table) (w .before) .tasks) (w .number - 1) zeroTask .deadline in
+    closedBySlot (w .number) (w .need) deadline (w .after) ≡ true
 unfolding Promise
 not-empty-closed w =
     promise (w .table) (w .cores) (w .admitted) (w .calls) .all-closed
-    (w .before) (w .after) (w .entry) (w .number) (w .log) (w .called) (w .released) (w .enough-slots)
+    (w .before) (w .after) (w .entry) (w .number) (w .need) (w .log) (w .called) (w .released) (w .enough-slots)

@@ -33,7 +33,7 @@ unfolding isDone joinedBy afterRelease afterFinish withJob withJoined afterSlot 
 table-after m =
     by-call m (λ call answer. answer .machine .table ≡ cond (isDone (answer .outcome)) (joinedBy call (m .table)) (m .table))
     (λ call number place told. refl)
-    (λ number taken. refl)
+    (λ number need taken. refl)
     (λ number taken. refl)
     (λ k ran cores taken. refl)
     (λ t taken. refl)
@@ -51,29 +51,28 @@ module _ (m : Machine) (kept : Kept m) where
 
   -- the job of a release, right after it
   opened :
-      (number : ℕ) → ReleaseTaken m number
-      → let k = taskAt m (number - 1) in
-      Going (afterRelease m number) (number - 1) (k .deadline) (k .budget)
+      (number need : ℕ) → ReleaseTaken m number need → Going (afterRelease m number need) (number - 1) (taskAt m (number - 1) .deadline) need
   unfolding jobsOf afterRelease withJob releasedJob
-  opened number taken =
-      let job = released-job m (kept .all-jobs) number taken in
+  opened number need taken =
+      let job = released-job m (kept .all-jobs) number need taken in
       record {
-        kept = kept-release m kept number taken;
+        kept = kept-release m kept number need taken;
         inside = taken .task .inside;
         is-open = rw job;
         left-is = rw job;
         budget-is = rw job;
       }
 
-  release-closed : (calls : List Call) (number : ℕ) → ReleaseTaken m number →
-      let k = taskAt m (number - 1) in
-      k .deadline ≤ slotCount (play (afterRelease m number) calls) → closedBySlot number k (play (afterRelease m number) calls) ≡ true
-  release-closed calls number taken bound =
+  release-closed :
+      (calls : List Call) (number need : ℕ) → ReleaseTaken m number need
+      → let deadline = taskAt m (number - 1) .deadline in
+      let log = play (afterRelease m number need) calls in
+      deadline ≤ slotCount log → closedBySlot number need deadline log ≡ true
+  release-closed calls number need taken bound =
       let from-one : suc (number - 1) ≡ number = omega (arith, taken .task .some) in
-      let k = taskAt m (number - 1) in
-      closes-by-slot number k (play (afterRelease m number) calls)
-      ∙ rw from-one at
-      (closing (afterRelease m number) (number - 1) (k .deadline) (k .budget) (opened number taken) calls bound)
+      let deadline = taskAt m (number - 1) .deadline in
+      closes-by-slot number need deadline (play (afterRelease m number need) calls)
+      ∙ rw from-one at (closing (afterRelease m number need) (number - 1) deadline need (opened number need taken) calls bound)
 
   entry-in-time :
       (calls : List Call) (call : Call)
@@ -81,17 +80,18 @@ module _ (m : Machine) (kept : Kept m) where
   unfolding isDone taskAt
   entry-in-time calls =
       by-call m (λ call answer. EntryInTime (m .table) (entryOf call answer) (play (answer .machine) calls))
-      (λ call number place told. quiet-in-time _ _ _ refl (λ n e d. clash cc))
-      (λ n taken.
+      (λ call number place told. quiet-in-time _ _ _ refl (λ n e c d. clash cc))
+      (λ n e taken.
       record {
         not-late = quiet-report;
-        closed = λ number e d.
+        closed = λ number need c d.
             let same : n ≡ number = cc in
-            rw (← same) (release-closed calls n taken);
+            let same-need : e ≡ need = cc in
+            rw (← same, ← same-need) (release-closed calls n e taken);
       })
-      (λ n taken. quiet-in-time _ _ _ refl (λ number e d. clash cc))
-      (λ k ran cores taken. record { not-late = slot-in-time ran cores (taken .legal); closed = λ number e d. clash cc })
-      (λ t taken. quiet-in-time _ _ _ refl (λ number e d. clash cc))
+      (λ n taken. quiet-in-time _ _ _ refl (λ number need c d. clash cc))
+      (λ k ran cores taken. record { not-late = slot-in-time ran cores (taken .legal); closed = λ number need c d. clash cc })
+      (λ t taken. quiet-in-time _ _ _ refl (λ number need c d. clash cc))
 
 each-entry : (calls : List Call) (m : Machine) → Kept m → EachInTime (m .table) (play m calls)
 unfolding play

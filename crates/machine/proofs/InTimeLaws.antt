@@ -20,9 +20,9 @@ use Rattle.machine.specs.declared.call.Call.the-variants.{Release}
 pub record EntryInTime (t : Table) (x : Entry) (log : List Entry) : Type 0 where
   pub not-late : (i : ℕ) → getD (x .report .late) i false ≡ false
   pub closed :
-      (number : ℕ) → x .call ≡ Release number → isDone (x .outcome) ≡ true
-      → let k = getD (t .tasks) (number - 1) zeroTask in
-      k .deadline ≤ slotCount log → closedBySlot number k log ≡ true
+      (number need : ℕ) → x .call ≡ Release number need → isDone (x .outcome) ≡ true
+      → let deadline = getD (t .tasks) (number - 1) zeroTask .deadline in
+      deadline ≤ slotCount log → closedBySlot number need deadline log ≡ true
 
 -- a report that names no task has none late
 pub quiet-report : (i : ℕ) → getD (noReport .late) i false ≡ false
@@ -31,12 +31,12 @@ quiet-report i = replicate-entry maxTasks i false
 
 pub quiet-in-time :
     (t : Table) (x : Entry) (log : List Entry) → x .report ≡ noReport
-    → ((number : ℕ) → x .call ≡ Release number → isDone (x .outcome) ≡ true → ⊥)
+    → ((number need : ℕ) → x .call ≡ Release number need → isDone (x .outcome) ≡ true → ⊥)
     → EntryInTime t x log
 quiet-in-time t x log quiet no-release =
     record {
       not-late = λ i. rw quiet (quiet-report i);
-      closed = λ number e d. absurd (no-release number e d);
+      closed = λ number need e d. absurd (no-release number need e d);
     }
 
 -- the claim of every entry of a log from a machine on the table t, each with the log after it
@@ -65,5 +65,5 @@ pub each-in-time : (t : Table) (log : List Entry) → EachInTime t log → InTim
 each-in-time t log each =
     record {
       none-late = λ before after e split is-slot. each before after e split .not-late;
-      all-closed = λ before after e number split. each before after e split .closed number;
+      all-closed = λ before after e number need split. each before after e split .closed number need;
     }

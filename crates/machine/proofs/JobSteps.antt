@@ -12,7 +12,6 @@ use Rattle.tasks.specs.declared.table.Table.{Table}
 use Rattle.tasks.specs.Limits.{maxTasks}
 use Rattle.tasks.specs.TaskSet.{firstTasks, tasksOf}
 use Rattle.tasks.specs.Table.{zeroTask, withTask}
-use Rattle.edzl.proofs.WellFormed.{WellFormed}
 use Rattle.edzl.proofs.Release.{Released}
 use Rattle.edzl.proofs.Finish.{Finished}
 use Rattle.edzl.proofs.WindowLaws.{SameTask}
@@ -22,27 +21,27 @@ use Rattle.machine.specs.Machine.{taskAt, jobAt}
 use Rattle.machine.specs.declared.machine.Machine.{Machine}
 use Rattle.machine.specs.Calls.{withJoined}
 use Rattle.machine.proofs.State.{jobsOf, same-job, job-set, rest-same}
-use Rattle.machine.proofs.SoundLaws.{sound-fits}
 use Rattle.machine.proofs.CallCases.{ReleaseTaken, FinishTaken, afterRelease, afterFinish}
 
 module _ (m : Machine) (all-jobs : length (m .jobs) ≡ maxTasks) (number : ℕ) where
-  pub released-job : ReleaseTaken m number → jobAt (afterRelease m number) (number - 1) ≡ releasedJob (taskAt m (number - 1))
+  pub released-job :
+      (need : ℕ) → ReleaseTaken m number need → jobAt (afterRelease m number need) (number - 1) ≡ releasedJob (taskAt m (number - 1)) need
   unfolding afterRelease
-  released-job taken = job-set m (number - 1) (releasedJob (taskAt m (number - 1))) (omega (arith, taken .task .index))
+  released-job need taken = job-set m (number - 1) (releasedJob (taskAt m (number - 1)) need) (omega (arith, taken .task .index))
 
-  pub release-step : ReleaseTaken m number → Released (tasksOf (m .table)) (number - 1) (jobsOf m) (jobsOf (afterRelease m number))
-  unfolding jobsOf tasksOf firstTasks afterRelease releasedJob taskAt WellFormed
-  release-step taken =
+  pub release-step :
+      (need : ℕ) → ReleaseTaken m number need → Released (tasksOf (m .table)) (number - 1) (jobsOf m) (jobsOf (afterRelease m number need))
+  unfolding jobsOf tasksOf firstTasks afterRelease releasedJob taskAt
+  release-step need taken =
       let i : ℕ = number - 1 in
-      let job = released-job taken in
-      let fits = sound-fits m (taken .task .is-sound) i (taken .task .inside) in
+      let job = released-job need taken in
       record {
         was-closed = taken .was-closed;
         was-free = taken .was-free;
         now-open = rw job;
         now-left = rw job;
-        budget-some = rw job (fits .budget-some);
-        budget-fits = rw job (omega arith);
+        budget-some = rw job (taken .needed .need-some);
+        budget-fits = rw job (taken .needed .need-fits);
         now-gap = rw job;
         rest = λ k h ne. rest-same m i _ k ne;
       }

@@ -75,12 +75,12 @@ module _ (m : Machine) (kept : Kept m) where
   unfolding withJob
   kept-job i j safe = record { safe = safe; admits = kept .admits; all-jobs = rw length-set (kept .all-jobs) }
 
-  pub kept-release : (number : ℕ) → ReleaseTaken m number → Kept (afterRelease m number)
+  pub kept-release : (number need : ℕ) → ReleaseTaken m number need → Kept (afterRelease m number need)
   unfolding tasksOf firstTasks afterRelease
-  kept-release number taken =
+  kept-release number need taken =
       kept-job _ _
       (safe-release _ (sound-fits m (taken .task .is-sound)) _ _ _ (kept .safe) _ (taken .task .inside)
-      (release-step m (kept .all-jobs) number taken))
+      (release-step m (kept .all-jobs) number need taken))
 
   pub kept-finish : (number : ℕ) → FinishTaken m number → Kept (afterFinish m number)
   unfolding tasksOf firstTasks afterFinish

@@ -21,7 +21,7 @@ pub not-unsound : (m : Machine) → sound m ≡ true → (call : Call) → Not0 
 not-unsound m ok =
     by-call m (λ call answer. Not0 (answer .outcome))
     (λ call number place told. refused-not-0 number place (told .some ok))
-    (λ number taken. done-not-0)
+    (λ number need taken. done-not-0)
     (λ number taken. done-not-0)
     (λ k ran cores taken. done-not-0)
     (λ t taken. done-not-0)

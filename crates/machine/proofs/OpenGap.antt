@@ -1,5 +1,5 @@
 -- In every machine of every list of calls from a fresh machine an open task has a gap of at least its left, and so above 0 (`open-gap`), and a release
--- of a task whose job is open is refused by 9 (`open-release`): with number 10 after it, 10 would never come.
+-- of a task whose job is open, with a need that it may name, is refused by 9 (`open-release`): with number 10 after it, 10 would never come.
 use Prim.Native.Nat.{ℕ, _-_, _≤_, _<_}
 use native.Mathlib.Omega.{arith}
 use mathlib.Core.Path.{_≡_}
@@ -10,6 +10,7 @@ use Rattle.tasks.specs.declared.table.Table.{Table}
 use Rattle.tasks.specs.declared.outcome.Outcome.the-variants.{Done}
 use Rattle.tasks.specs.Refusals.{releasedTooSoon}
 use Rattle.job.specs.declared.job.Job.{Job}
+use Rattle.job.specs.Job.{needInRange}
 use Rattle.job.proofs.SoundLaws.{open-numbers}
 use Rattle.machine.specs.Machine.{taskAt, jobAt, inTable}
 use Rattle.machine.specs.Sound.{sound}
@@ -32,11 +33,13 @@ module _ (m : Machine) (ok : sound m ≡ true) where
       let numbers = open-numbers (taskAt m i) (jobAt m i) (sound-job m ok i h) o in
       record { covers-left = numbers .gap-covers; above-0 = omega (arith, numbers) }
 
-  sound-release : (number : ℕ) → inTable m number ≡ true → jobAt m (number - 1) .«open» ≡ true → release m number ≡ refuse m releasedTooSoon
+  sound-release :
+      (number need : ℕ) → inTable m number ≡ true → needInRange (taskAt m (number - 1)) need ≡ true → jobAt m (number - 1) .«open» ≡ true
+      → release m number need ≡ refuse m releasedTooSoon
   unfolding release
-  sound-release number known o =
+  sound-release number need known needed o =
       let task = known-task m number ok known in
-      rw (ok, known, lt-ltb _ _ (sound-gap (number - 1) (task .inside) o .above-0))
+      rw (ok, known, needed, lt-ltb _ _ (sound-gap (number - 1) (task .inside) o .above-0))
 
 module _ (t : Table) (cores : ℕ) (starts : start t cores .outcome ≡ Done) (calls : List Call) where
   -- the machine after the calls
@@ -47,5 +50,6 @@ module _ (t : Table) (cores : ℕ) (starts : start t cores .outcome ≡ Done) (c
   open-gap = sound-gap later (always-sound t cores starts calls .is-sound)
 
   pub open-release :
-      (number : ℕ) → inTable later number ≡ true → jobAt later (number - 1) .«open» ≡ true → release later number ≡ refuse later releasedTooSoon
+      (number need : ℕ) → inTable later number ≡ true → needInRange (taskAt later (number - 1)) need ≡ true → jobAt later (number - 1) .«open» ≡ true
+      → release later number need ≡ refuse later releasedTooSoon
   open-release = sound-release later (always-sound t cores starts calls .is-sound)

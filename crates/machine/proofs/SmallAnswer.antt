@@ -50,7 +50,7 @@ small-answer m =
     by-call m (λ call answer. SmallAnswer answer)
     (λ call number place told.
     record { number = λ n p e. let same : number ≡ n = cc in omega (arith, told .small); report = none-small })
-    (λ number taken. record { number = λ n p e. clash cc; report = none-small })
+    (λ number need taken. record { number = λ n p e. clash cc; report = none-small })
     (λ number taken. record { number = λ n p e. clash cc; report = none-small })
     (λ k ran cores taken.
     let placed = taken .placed in

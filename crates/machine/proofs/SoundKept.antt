@@ -66,10 +66,11 @@ module _ (m : Machine) (ok : sound m ≡ true) where
         cores-are = refl;
       }
 
-  release-keeps : (number : ℕ) → ReleaseTaken m number → SoundOn (m .cores) (afterRelease m number)
+  release-keeps : (number need : ℕ) → ReleaseTaken m number need → SoundOn (m .cores) (afterRelease m number need)
   unfolding afterRelease taskAt
-  release-keeps number taken =
-      job-keeps (number - 1) _ (released-sound (taskAt m (number - 1)) (sound-passes m ok .tasks-fit (number - 1) (taken .task .inside)))
+  release-keeps number need taken =
+      let i : ℕ = number - 1 in
+      job-keeps i _ (released-sound (taskAt m i) need (sound-passes m ok .tasks-fit i (taken .task .inside)) (taken .needed))
 
   finish-keeps : (number : ℕ) → FinishTaken m number → SoundOn (m .cores) (afterFinish m number)
   unfolding afterFinish

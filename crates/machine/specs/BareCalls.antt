@@ -1,4 +1,5 @@
--- The calls as they were before document 02's change 4, on the machine without cores, for the theorems of proofs/AsBefore.antt alone.
+-- The calls as they were before document 02's change 4, on the machine without cores, for the theorems of proofs/AsBefore.antt alone; a release as change 5
+-- has it.
 use Prim.Native.Nat.{ℕ, _-_}
 use mathlib.Core.Bool.{Bool, false, cond, not, _&&_}
 use mathlib.Core.List.{List, [], _∷_}
@@ -10,12 +11,12 @@ use Rattle.tasks.specs.declared.task.Task.{Task}
 use Rattle.tasks.specs.declared.outcome.Outcome.{Outcome}
 use Rattle.tasks.specs.declared.outcome.Outcome.the-variants.{Done, Refused}
 use Rattle.tasks.specs.Limits.{maxTasks, maxCores}
-use Rattle.tasks.specs.Refusals.{unsoundMachine, taskOutOfRange, noSuchTask, releasedTooSoon, jobNotOpen, tableFull, notAdmitted, slotCoresOutOfRange}
+use Rattle.tasks.specs.Refusals.{unsoundMachine, taskOutOfRange, noSuchTask, releasedTooSoon, jobNotOpen, tableFull, notAdmitted, slotCoresOutOfRange, needOutOfRange}
 use Rattle.tasks.specs.Task.{inRange}
 use Rattle.tasks.specs.Table.{withTask}
 use Rattle.judge.specs.Judge.{judged}
 use Rattle.job.specs.declared.job.Job.{Job}
-use Rattle.job.specs.Job.{freshJob, releasedJob, closedJob}
+use Rattle.job.specs.Job.{freshJob, needInRange, releasedJob, closedJob}
 use Rattle.job.specs.Slot.{charged, aged, isFinished, isLate, settled}
 use Rattle.machine.specs.BareMachine.{BareMachine, bare, bareTaskAt, bareJobAt, bareWithJob, bareInTable, bareSound, bareRunners}
 use Rattle.machine.specs.Play.{Entry}
@@ -85,13 +86,15 @@ bareDone b = record { machine = b; outcome = Done; report = bareNoReport }
 unfoldable pub bareRefuse : BareMachine → (number : ℕ) → BareAnswer
 bareRefuse b number = record { machine = b; outcome = Refused number 0; report = bareNoReport }
 
--- "Release: 8, 9, 10", after 0, where change 3 takes "number 10 out of the list"
-unfoldable pub bareRelease : BareMachine → (number : ℕ) → BareAnswer
-bareRelease b number =
+-- "Release: 8, 9, 10", after 0, where change 3 takes "number 10 out of the list"; change 5: "A release now names e", and "number 15, tried after 8 and
+-- before 9"
+unfoldable pub bareRelease : BareMachine → (number need : ℕ) → BareAnswer
+bareRelease b number need =
     let i = number - 1 in
     cond (not (bareSound b)) (bareRefuse b unsoundMachine)
     (cond (not (bareInTable b number)) (bareRefuse b noSuchTask)
-    (cond (ltb 0 (bareJobAt b i .gap)) (bareRefuse b releasedTooSoon) (bareDone (bareWithJob b i (releasedJob (bareTaskAt b i))))))
+    (cond (not (needInRange (bareTaskAt b i) need)) (bareRefuse b needOutOfRange)
+    (cond (ltb 0 (bareJobAt b i .gap)) (bareRefuse b releasedTooSoon) (bareDone (bareWithJob b i (releasedJob (bareTaskAt b i) need))))))
 
 -- "Finish: 8, 11", after 0
 unfoldable pub bareFinish : BareMachine → (number : ℕ) → BareAnswer
@@ -129,7 +132,7 @@ bareJoin b t =
 
 -- "A call is one of release, finish, slot and join"
 unfoldable pub bareStep : BareMachine → Call → BareAnswer
-bareStep b (Release number) = bareRelease b number
+bareStep b (Release number need) = bareRelease b number need
 bareStep b (Finish number) = bareFinish b number
 bareStep b (Slot k) = bareSlot b k
 bareStep b (Join t) = bareJoin b t

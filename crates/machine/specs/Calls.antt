@@ -1,5 +1,5 @@
 -- The calls of the machine: document 01, "The slot machine" and "Why a call is not carried out"; a slot by document 02, change 1, a release by
--- change 3, and the cores of a start, a slot and a join by change 4.
+-- changes 3 and 5, and the cores of a start, a slot and a join by change 4.
 use Prim.Native.Nat.{ℕ, _-_}
 use mathlib.Core.Bool.{Bool, cond, not, _&&_}
 use lib.Dec.{leb, ltb}
@@ -9,12 +9,12 @@ use Rattle.tasks.specs.declared.table.Table.{Table}
 use Rattle.tasks.specs.declared.outcome.Outcome.{Outcome}
 use Rattle.tasks.specs.declared.outcome.Outcome.the-variants.{Done, Refused}
 use Rattle.tasks.specs.Limits.{maxTasks, maxCores}
-use Rattle.tasks.specs.Refusals.{unsoundMachine, taskOutOfRange, noSuchTask, releasedTooSoon, jobNotOpen, tableFull, notAdmitted, slotCoresOutOfRange}
+use Rattle.tasks.specs.Refusals.{unsoundMachine, taskOutOfRange, noSuchTask, releasedTooSoon, jobNotOpen, tableFull, notAdmitted, slotCoresOutOfRange, needOutOfRange}
 use Rattle.tasks.specs.Task.{inRange}
 use Rattle.tasks.specs.Table.{withTask}
 use Rattle.tasks.specs.Check.{checked}
 use Rattle.judge.specs.Judge.{judged}
-use Rattle.job.specs.Job.{freshJob, releasedJob, closedJob}
+use Rattle.job.specs.Job.{freshJob, needInRange, releasedJob, closedJob}
 use Rattle.machine.specs.Machine.{zeroMachine, taskAt, jobAt, withJob, inTable}
 use Rattle.machine.specs.Pick.{runners}
 use Rattle.machine.specs.Slot.{noReport, slotReport, afterSlot}
@@ -44,13 +44,15 @@ startAfter (Refused number place) t cores =
 unfoldable pub start : Table → (cores : ℕ) → Answer
 start t cores = startAfter (checked t cores) t cores
 
--- "Release: 8, 9, 10", after 0, where change 3 takes "number 10 out of the list"
-unfoldable pub release : Machine → (number : ℕ) → Answer
-release m number =
+-- "Release: 8, 9, 10", after 0, where change 3 takes "number 10 out of the list"; change 5: "A release now names e", and "number 15, tried after 8 and
+-- before 9"
+unfoldable pub release : Machine → (number need : ℕ) → Answer
+release m number need =
     let i = number - 1 in
     cond (not (sound m)) (refuse m unsoundMachine)
     (cond (not (inTable m number)) (refuse m noSuchTask)
-    (cond (ltb 0 (jobAt m i .gap)) (refuse m releasedTooSoon) (done (withJob m i (releasedJob (taskAt m i))))))
+    (cond (not (needInRange (taskAt m i) need)) (refuse m needOutOfRange)
+    (cond (ltb 0 (jobAt m i .gap)) (refuse m releasedTooSoon) (done (withJob m i (releasedJob (taskAt m i) need))))))
 
 -- "Finish: 8, 11", after 0
 unfoldable pub finish : Machine → (number : ℕ) → Answer
@@ -100,7 +102,7 @@ join m t =
 
 -- "A call is one of release, finish, slot and join"
 unfoldable pub step : Machine → Call → Answer
-step m (Release number) = release m number
+step m (Release number need) = release m number need
 step m (Finish number) = finish m number
 step m (Slot k) = slot m k
 step m (Join t) = join m t

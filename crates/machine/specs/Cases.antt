@@ -4,11 +4,11 @@ use Prim.Native.Nat.{ℕ, zero, suc}
 use mathlib.Core.Bool.{Bool, true, false, cond, _&&_, Bool·beq}
 use mathlib.Core.List.{List, [], _∷_, _++_}
 use lib.Dec.{eqb}
-use lib.ListN.{length, replicate}
+use lib.ListN.{length, getD, replicate}
 use Rattle.edzl.specs.Window.{interference}
 use Rattle.tasks.specs.declared.task.Task.{Task}
 use Rattle.tasks.specs.declared.table.Table.{Table}
-use Rattle.tasks.specs.Table.{emptyTable, withTask}
+use Rattle.tasks.specs.Table.{zeroTask, emptyTable, withTask}
 use Rattle.judge.specs.Judge.{judged}
 use Rattle.machine.specs.Mask.{mask}
 use Rattle.tasks.specs.Outcome.{isDone}
@@ -58,15 +58,19 @@ sameLines [] (y ∷ t) = false
 sameLines (x ∷ s) [] = false
 sameLines (x ∷ s) (y ∷ t) = eqb (x .ran) (y .ran) && eqb (x .finished) (y .finished) && eqb (x .late) (y .late) && sameLines s t
 
--- releases of the tasks 1 to n
-unfoldable pub releases : ℕ → List Call
-releases zero = []
-releases (suc n) = releases n ++ Release (suc n) ∷ []
+-- releases of the tasks 1 to n of a table, each of its whole budget: the cases are document 01's, where "Every release is charged the whole C_i"
+unfoldable pub releases : Table → (n : ℕ) → List Call
+releases t zero = []
+releases t (suc n) = releases t n ++ Release (suc n) (getD (t .tasks) n zeroTask .budget) ∷ []
+
+-- these tasks "all released"
+unfoldable pub allReleased : List Task → List Call
+allReleased tasks = releases (tableOf tasks) (length tasks)
 
 -- the log of a session: the tasks of a table "all released" on a fresh machine, then so many slots; document 02, change 1: "The sessions name
 -- k = m"
 unfoldable pub session : List Task → (cores slots : ℕ) → List Entry
-session tasks cores slots = play (start (tableOf tasks) cores .machine) (releases (length tasks) ++ replicate slots (Slot cores))
+session tasks cores slots = play (start (tableOf tasks) cores .machine) (allReleased tasks ++ replicate slots (Slot cores))
 
 -- whether a case holds
 unfoldable pub holds : Case → Bool

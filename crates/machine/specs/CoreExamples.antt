@@ -15,7 +15,7 @@ use Rattle.machine.specs.Sound.{sound}
 use Rattle.machine.specs.Calls.{start}
 use Rattle.machine.specs.Play.{Entry, play, machineAfter}
 use Rattle.machine.specs.InTime.{acceptedSlot}
-use Rattle.machine.specs.Cases.{task, tableOf, releases}
+use Rattle.machine.specs.Cases.{task, tableOf, allReleased}
 use Rattle.machine.specs.Examples.{answers, refusals}
 use Rattle.machine.specs.declared.machine.Machine.{Machine}
 use Rattle.machine.specs.declared.call.Call.{Call}
@@ -37,11 +37,11 @@ sameLists (x ∷ s) (y ∷ t) = sameNumbers x y && sameLists s t
 unfoldable pub coresAre : List Task → List Call → List (List ℕ) → Bool
 coresAre tasks calls lines = sameLists (coreLines (length tasks) (answers tasks 1 calls)) lines
 
--- three tasks that need three of nine slots each
+-- three tasks with a budget of three in nine slots each
 unfoldable pub three : List Task
 three = replicate 3 (task 9 3 9)
 
--- two tasks that need every slot and can be released in every slot
+-- two tasks that are due in one slot and can be released in every slot
 unfoldable pub everySlot : List Task
 everySlot = replicate 2 (task 1 1 1)
 
@@ -63,25 +63,25 @@ elseNoCores (e ∷ log) = (acceptedSlot e || sameNumbers (e .report .assigned) (
 unfoldable pub coreExamples : List Bool
 coreExamples =
     -- a keeper that comes second in precedence: task 1 is due first and takes core 2
-    coresAre (task 9 2 3 ∷ task 9 4 9 ∷ []) (Release 2 ∷ Slot 2 ∷ Release 1 ∷ Slot 2 ∷ []) ((0 ∷ 1 ∷ []) ∷ (2 ∷ 1 ∷ []) ∷ []) ∷
+    coresAre (task 9 2 3 ∷ task 9 4 9 ∷ []) (Release 2 4 ∷ Slot 2 ∷ Release 1 2 ∷ Slot 2 ∷ []) ((0 ∷ 1 ∷ []) ∷ (2 ∷ 1 ∷ []) ∷ []) ∷
     -- none has a core: they take theirs in precedence, not in the order of their numbers
-    coresAre (task 9 2 5 ∷ task 9 2 3 ∷ []) (releases 2 ++ Slot 2 ∷ []) ((2 ∷ 1 ∷ []) ∷ []) ∷
+    coresAre (task 9 2 5 ∷ task 9 2 3 ∷ []) (Release 1 2 ∷ Release 2 2 ∷ Slot 2 ∷ []) ((2 ∷ 1 ∷ []) ∷ []) ∷
     -- an open task that waits has none
-    coresAre three (releases 3 ++ Slot 2 ∷ Slot 1 ∷ []) ((1 ∷ 2 ∷ 0 ∷ []) ∷ (0 ∷ 0 ∷ 1 ∷ []) ∷ []) ∷
+    coresAre three (allReleased three ++ Slot 2 ∷ Slot 1 ∷ []) ((1 ∷ 2 ∷ 0 ∷ []) ∷ (0 ∷ 0 ∷ 1 ∷ []) ∷ []) ∷
     -- a task whose core is above k takes the lowest one that no runner keeps
-    coresAre three (releases 3 ++ Slot 3 ∷ Finish 2 ∷ Slot 2 ∷ []) ((1 ∷ 2 ∷ 3 ∷ []) ∷ (1 ∷ 0 ∷ 2 ∷ []) ∷ []) ∷
+    coresAre three (allReleased three ++ Slot 3 ∷ Finish 2 ∷ Slot 2 ∷ []) ((1 ∷ 2 ∷ 3 ∷ []) ∷ (1 ∷ 0 ∷ 2 ∷ []) ∷ []) ∷
     -- a finished task released again at once keeps its core; after a slot in which it did not run it has none
-    coresAre everySlot (releases 2 ++ Slot 2 ∷ Release 2 ∷ Slot 2 ∷ Slot 1 ∷ Release 2 ∷ Slot 2 ∷ [])
+    coresAre everySlot (allReleased everySlot ++ Slot 2 ∷ Release 2 1 ∷ Slot 2 ∷ Slot 1 ∷ Release 2 1 ∷ Slot 2 ∷ [])
     ((1 ∷ 2 ∷ []) ∷ (0 ∷ 2 ∷ []) ∷ (0 ∷ 0 ∷ []) ∷ (0 ∷ 1 ∷ []) ∷ []) ∷
     -- three tasks of which two are finished before a slot of one core
-    coresAre three (releases 3 ++ Slot 3 ∷ Finish 1 ∷ Finish 2 ∷ Slot 1 ∷ []) ((1 ∷ 2 ∷ 3 ∷ []) ∷ (0 ∷ 0 ∷ 1 ∷ []) ∷ []) ∷
+    coresAre three (allReleased three ++ Slot 3 ∷ Finish 1 ∷ Finish 2 ∷ Slot 1 ∷ []) ((1 ∷ 2 ∷ 3 ∷ []) ∷ (0 ∷ 0 ∷ 1 ∷ []) ∷ []) ∷
     -- a refused slot, a release and a finish of another task keep the record; the core of the finished task is free
-    coresAre three (Release 1 ∷ Release 2 ∷ Slot 2 ∷ Slot 0 ∷ Finish 1 ∷ Release 3 ∷ Slot 2 ∷ [])
+    coresAre three (Release 1 3 ∷ Release 2 3 ∷ Slot 2 ∷ Slot 0 ∷ Finish 1 ∷ Release 3 3 ∷ Slot 2 ∷ [])
     ((1 ∷ 2 ∷ 0 ∷ []) ∷ (0 ∷ 2 ∷ 1 ∷ []) ∷ []) ∷
     -- a finish keeps the core of its own task
-    eqb (coreAt (machineAfter (start (tableOf three) 1 .machine) (releases 3 ++ Slot 3 ∷ Finish 2 ∷ [])) 1) 2 ∷
+    eqb (coreAt (machineAfter (start (tableOf three) 1 .machine) (allReleased three ++ Slot 3 ∷ Finish 2 ∷ [])) 1) 2 ∷
     -- a release, a finish, a refused slot and a join name no core
-    elseNoCores (answers three 4 (releases 3 ++ Slot 4 ∷ Finish 1 ∷ Slot 3 ∷ Join (task 9 1 9) ∷ [])) ∷
+    elseNoCores (answers three 4 (allReleased three ++ Slot 4 ∷ Finish 1 ∷ Slot 3 ∷ Join (task 9 1 9) ∷ [])) ∷
     -- records with 16, 17, a core twice, and 0 twice; entries past the count are no part of the machine
     sound (recording (16 ∷ 1 ∷ [])) ∷
     not (sound (recording (17 ∷ 1 ∷ []))) ∷
@@ -89,7 +89,7 @@ coreExamples =
     sound (recording (0 ∷ 0 ∷ [])) ∷
     sound (recording (3 ∷ 0 ∷ 3 ∷ 17 ∷ [])) ∷
     -- every call on a machine with a core twice is refused by 0, before its own refusals
-    sameNumbers (refusals (play (recording (3 ∷ 3 ∷ [])) (Release 9 ∷ Finish 9 ∷ Slot 0 ∷ Join (task 5 6 5) ∷ []))) (replicate 4 0) ∷
+    sameNumbers (refusals (play (recording (3 ∷ 3 ∷ [])) (Release 9 0 ∷ Finish 9 ∷ Slot 0 ∷ Join (task 5 6 5) ∷ []))) (replicate 4 0) ∷
     -- a joining task has no core, whatever stood in its entry
     sameNumbers (recordAfter (1 ∷ 2 ∷ 5 ∷ []) (Join (task 9 1 9))) (1 ∷ 2 ∷ 0 ∷ []) ∷
     -- a slot in which nobody runs clears the record of the table's tasks alone

@@ -7,14 +7,14 @@ use Prim.Native.Nat.{ℕ, _+_}
 use mathlib.Core.Bool.{Bool, true, false, cond, not, _&&_}
 use mathlib.Core.List.{List, [], _∷_, _++_}
 use lib.Dec.{eqb}
-use lib.ListN.{set, replicate, take, drop}
+use lib.ListN.{getD, set, replicate, take, drop}
 use Rattle.edzl.specs.Sums.{bit}
 use Rattle.tasks.specs.declared.task.Task.{Task}
 use Rattle.tasks.specs.declared.outcome.Outcome.{Outcome}
 use Rattle.tasks.specs.declared.outcome.Outcome.the-variants.{Done, Refused}
 use Rattle.tasks.specs.Refusals.{unsoundMachine}
 use Rattle.tasks.specs.Limits.{maxTasks}
-use Rattle.tasks.specs.Table.{emptyTable}
+use Rattle.tasks.specs.Table.{zeroTask, emptyTable}
 use Rattle.job.specs.Job.{freshJob}
 use Rattle.cores.specs.Examples.{sameNumbers}
 use Rattle.machine.specs.declared.machine.Machine.{Machine}
@@ -22,9 +22,10 @@ use Rattle.machine.specs.Mask.{mask}
 use Rattle.machine.specs.Slot.{noReport}
 use Rattle.machine.specs.Sound.{sound}
 use Rattle.machine.specs.Calls.{start}
+use Rattle.machine.specs.FormerRelease.{formerRelease}
 use Rattle.machine.specs.Play.{Entry, play}
 use Rattle.machine.specs.InTime.{acceptedSlot, slotCount, closedBySlot, tableAfter}
-use Rattle.machine.specs.Cases.{Line, verdictIs, sessionIs, task, tableOf, slotLines, sameLines, releases, holds, line, example}
+use Rattle.machine.specs.Cases.{Line, verdictIs, sessionIs, task, tableOf, slotLines, sameLines, allReleased, holds, line, example}
 use Rattle.machine.specs.declared.call.Call.{Call}
 use Rattle.machine.specs.declared.call.Call.the-variants.{Release, Finish, Slot, Join}
 
@@ -65,7 +66,7 @@ many = replicate 20 (task 40 2 20) ++ replicate 12 (task 40 3 7)
 -- all of them released on 16 cores, six slots report these lines and these numbers of runners
 unfoldable pub manyIs : List Line → (counts : List ℕ) → Bool
 manyIs lines counts =
-    let log = answers many 16 (releases 32 ++ replicate 6 (Slot 16)) in sameLines (slotLines log) lines && sameNumbers (runnerCounts log) counts
+    let log = answers many 16 (allReleased many ++ replicate 6 (Slot 16)) in sameLines (slotLines log) lines && sameNumbers (runnerCounts log) counts
 
 -- a task that must run in both slots to its deadline
 unfoldable pub pressed : List Task
@@ -73,11 +74,11 @@ pressed = task 4 2 2 ∷ []
 
 -- its release on 2 cores, then two slots that are refused, then its two slots
 unfoldable pub pressedCalls : List Call
-pressedCalls = Release 1 ∷ Slot 1 ∷ Slot 1 ∷ Slot 2 ∷ Slot 2 ∷ []
+pressedCalls = Release 1 2 ∷ Slot 1 ∷ Slot 1 ∷ Slot 2 ∷ Slot 2 ∷ []
 
 -- a slot with k cores between its two slots is refused by 14 and changes nothing: a job that aged in it would be late
 unfoldable pub ignoredSlot : (k : ℕ) → Bool
-ignoredSlot k = ignoredIs pressed 2 (Release 1 ∷ Slot 2 ∷ []) (Slot k) 14 (Slot 2 ∷ []) (line 1 0 0 ∷ line 1 1 0 ∷ [])
+ignoredSlot k = ignoredIs pressed 2 (Release 1 2 ∷ Slot 2 ∷ []) (Slot k) 14 (Slot 2 ∷ []) (line 1 0 0 ∷ line 1 1 0 ∷ [])
 
 -- the outcome is a refusal at place 0
 unfoldable pub atPlace0 : Outcome → Bool
@@ -105,10 +106,10 @@ madeByHand isOpen left budget gap =
       assigned = replicate maxTasks 0;
     }
 
--- calls of every kind, each also with a number, cores or a task that it refuses
+-- calls of every kind, each also with a number, need, cores or a task that it refuses
 unfoldable pub allKinds : List Call
 allKinds =
-    Release 1 ∷ Release 2 ∷ Finish 1 ∷ Finish 2 ∷ Slot 1 ∷ Slot 0 ∷ Join (task 9 1 9) ∷ Join (task 5 6 5) ∷ []
+    Release 1 3 ∷ Release 2 3 ∷ Release 1 0 ∷ Finish 1 ∷ Finish 2 ∷ Slot 1 ∷ Slot 0 ∷ Join (task 9 1 9) ∷ Join (task 5 6 5) ∷ []
 
 -- a table that a third task like the two fills beyond its cores
 unfoldable pub whole : List Task
@@ -121,7 +122,7 @@ overtaken = task 5 2 5 ∷ task 5 2 5 ∷ task 7 6 7 ∷ []
 -- a call on `example` after the first slot, in which task 1 finished and task 2 did not
 unfoldable pub ignored : Call → (number : ℕ) → Bool
 ignored call number =
-    ignoredIs example 2 (Release 1 ∷ Release 2 ∷ Slot 2 ∷ []) call number (Release 3 ∷ replicate 6 (Slot 2))
+    ignoredIs example 2 (Release 1 1 ∷ Release 2 2 ∷ Slot 2 ∷ []) call number (Release 3 6 ∷ replicate 6 (Slot 2))
     (line 3 1 0 ∷ line 6 2 0 ∷ line 4 0 0 ∷ line 4 0 0 ∷ line 4 0 0 ∷ line 4 0 0 ∷ line 4 4 0 ∷ [])
 
 -- runs of the machine, and which machines are sound
@@ -145,33 +146,33 @@ examples =
     runIs many 16 (Join (task 40 1 40) ∷ []) (12 ∷ []) [] ∷
     -- a join that is admitted, between two slots: its task is released and runs
     runIs (task 4 1 4 ∷ task 6 2 5 ∷ []) 2
-    (Release 1 ∷ Release 2 ∷ Slot 2 ∷ Join (task 10 6 8) ∷ Release 3 ∷ replicate 6 (Slot 2))
+    (Release 1 1 ∷ Release 2 2 ∷ Slot 2 ∷ Join (task 10 6 8) ∷ Release 3 6 ∷ replicate 6 (Slot 2))
     []
     (line 3 1 0 ∷ line 6 2 0 ∷ line 4 0 0 ∷ line 4 0 0 ∷ line 4 0 0 ∷ line 4 0 0 ∷ line 4 4 0 ∷ []) ∷
     -- a join that is not admitted changes no later answer
-    ignoredIs whole 2 (Release 1 ∷ Slot 2 ∷ []) (Join (task 5 5 5)) 13 (Release 2 ∷ replicate 5 (Slot 2))
+    ignoredIs whole 2 (Release 1 5 ∷ Slot 2 ∷ []) (Join (task 5 5 5)) 13 (Release 2 5 ∷ replicate 5 (Slot 2))
     (line 1 0 0 ∷ line 3 0 0 ∷ line 3 0 0 ∷ line 3 0 0 ∷ line 3 1 0 ∷ line 2 2 0 ∷ []) ∷
     -- and its task has no number
-    runIs whole 2 (Join (task 5 5 5) ∷ Release 3 ∷ []) (13 ∷ 8 ∷ []) [] ∷
+    runIs whole 2 (Join (task 5 5 5) ∷ Release 3 5 ∷ []) (13 ∷ 8 ∷ []) [] ∷
     -- slot 3 runs task 3, urgent by then, before task 2 with the earlier deadline; tasks 1 and 2 first would make task 3 late
     holds (verdictIs overtaken 2 1 true) ∷
-    runIs overtaken 2 (Release 3 ∷ Slot 2 ∷ Release 1 ∷ Release 2 ∷ replicate 6 (Slot 2)) []
+    runIs overtaken 2 (Release 3 6 ∷ Slot 2 ∷ Release 1 2 ∷ Release 2 2 ∷ replicate 6 (Slot 2)) []
     (line 4 0 0 ∷ line 3 0 0 ∷ line 5 1 0 ∷ line 6 2 0 ∷ line 4 0 0 ∷ line 4 0 0 ∷ line 4 4 0 ∷ []) ∷
     -- refused calls that change no later answer: a release too soon, a finish of a closed task
-    ignored (Release 1) 9 ∷
+    ignored (Release 1 1) 9 ∷
     ignored (Finish 1) 11 ∷
     -- a release of a task whose job is open
-    ignored (Release 2) 9 ∷
+    ignored (Release 2 2) 9 ∷
     -- the task numbers 0 and n + 1
-    ignored (Release 0) 8 ∷
-    ignored (Release 4) 8 ∷
+    ignored (Release 0 1) 8 ∷
+    ignored (Release 4 1) 8 ∷
     ignored (Finish 0) 8 ∷
     ignored (Finish 4) 8 ∷
     -- a join out of range, and one that is not admitted
     ignored (Join (task 5 6 5)) 5 ∷
     ignored (Join (task 10 9 10)) 13 ∷
     -- a finish before the job has run: the task stays idle, and its gap stays
-    runIs example 2 (Release 1 ∷ Release 2 ∷ Finish 2 ∷ Release 2 ∷ replicate 2 (Slot 2)) (9 ∷ []) (line 1 1 0 ∷ line 0 0 0 ∷ []) ∷
+    runIs example 2 (Release 1 1 ∷ Release 2 2 ∷ Finish 2 ∷ Release 2 2 ∷ replicate 2 (Slot 2)) (9 ∷ []) (line 1 1 0 ∷ line 0 0 0 ∷ []) ∷
     -- refused slots between two accepted ones: of 0 cores, of one fewer than the machine's, of 17 and of the largest number
     ignoredSlot 0 ∷
     ignoredSlot 1 ∷
@@ -185,19 +186,19 @@ examples =
     -- and they tell nothing but their number
     emptyRefusals (take 2 (drop 1 (answers pressed 2 pressedCalls))) ∷
     -- more open tasks than the machine's cores and fewer than the slot's: all run
-    runIs example 2 (releases 3 ++ Slot 4 ∷ []) [] (line 7 1 0 ∷ []) ∷
-    sameNumbers (runnerCounts (answers example 2 (releases 3 ++ Slot 4 ∷ []))) (3 ∷ []) ∷
+    runIs example 2 (allReleased example ++ Slot 4 ∷ []) [] (line 7 1 0 ∷ []) ∷
+    sameNumbers (runnerCounts (answers example 2 (allReleased example ++ Slot 4 ∷ []))) (3 ∷ []) ∷
     -- one open task on 16 cores
-    sameNumbers (runnerCounts (answers example 2 (Release 2 ∷ replicate 3 (Slot 16)))) (1 ∷ 1 ∷ 0 ∷ []) ∷
+    sameNumbers (runnerCounts (answers example 2 (Release 2 2 ∷ replicate 3 (Slot 16)))) (1 ∷ 1 ∷ 0 ∷ []) ∷
     -- each slot has its own number: two of three open tasks run, then one, which owes more by then, then all three
-    runIs (replicate 3 (task 9 2 9)) 1 (releases 3 ++ Slot 2 ∷ Slot 1 ∷ Slot 4 ∷ []) []
+    runIs (replicate 3 (task 9 2 9)) 1 (allReleased (replicate 3 (task 9 2 9)) ++ Slot 2 ∷ Slot 1 ∷ Slot 4 ∷ []) []
     (line 3 0 0 ∷ line 4 0 0 ∷ line 7 7 0 ∷ []) ∷
     -- of equal deadlines the longer job first, by what it owes now: task 2 until both owe 1, then task 1
     holds (sessionIs (task 9 1 4 ∷ task 9 3 4 ∷ []) 1 (line 2 0 0 ∷ line 2 0 0 ∷ line 1 1 0 ∷ line 2 2 0 ∷ [])) ∷
     -- left goes before budget: task 1 owes less and is due first
     holds (sessionIs (task 9 1 3 ∷ task 9 3 6 ∷ []) 1 (line 1 1 0 ∷ line 2 0 0 ∷ line 2 0 0 ∷ line 2 2 0 ∷ [])) ∷
     -- both urgent with left 2: task 2 waited for task 3, owes 3 and goes before task 1, which owes 2
-    runIs (task 9 2 2 ∷ task 9 3 3 ∷ task 9 1 1 ∷ []) 1 (Release 2 ∷ Release 3 ∷ Slot 1 ∷ Release 1 ∷ Slot 1 ∷ Slot 1 ∷ []) []
+    runIs (task 9 2 2 ∷ task 9 3 3 ∷ task 9 1 1 ∷ []) 1 (Release 2 3 ∷ Release 3 1 ∷ Slot 1 ∷ Release 1 2 ∷ Slot 1 ∷ Slot 1 ∷ []) []
     (line 4 4 0 ∷ line 2 0 0 ∷ line 1 0 3 ∷ []) ∷
     -- an open job's gap is at least its left (document 02, change 3): equal is enough, and neither the budget, D nor left + (T − D) bounds it
     not (sound (madeByHand true 4 2 3)) ∷
@@ -220,12 +221,14 @@ examples =
     not (sound (madeByHand false 1 0 1)) ∷
     not (sound (madeByHand false 0 1 0)) ∷
     -- a gap below left is told by 0 before all else, and by every call
-    sameNumbers (refusals (play (madeByHand true 4 2 3) allKinds)) (replicate 8 0) ∷
+    sameNumbers (refusals (play (madeByHand true 4 2 3) allKinds)) (replicate 9 0) ∷
     -- a release of an open job is refused by 9, also in the last slot of its gap
-    sameNumbers (refusals (play (madeByHand true 4 2 4) (Release 2 ∷ Release 1 ∷ []))) (8 ∷ 9 ∷ []) ∷
-    sameNumbers (refusals (play (madeByHand true 1 1 1) (Release 1 ∷ []))) (9 ∷ []) ∷
+    sameNumbers (refusals (play (madeByHand true 4 2 4) (Release 2 3 ∷ Release 1 3 ∷ []))) (8 ∷ 9 ∷ []) ∷
+    sameNumbers (refusals (play (madeByHand true 1 1 1) (Release 1 3 ∷ []))) (9 ∷ []) ∷
+    -- by document 01 one of an open job without a gap, which was sound then, was refused by 10
+    sameNumbers (refusalBefore (formerRelease (madeByHand true 4 2 0) 1 .outcome) []) (10 ∷ []) ∷
     -- after a gap of four slots a release is accepted, and not after three
-    sameNumbers (refusals (play (madeByHand true 4 2 4) (replicate 3 (Slot 1) ++ Release 1 ∷ Slot 1 ∷ Release 1 ∷ []))) (9 ∷ []) ∷
+    sameNumbers (refusals (play (madeByHand true 4 2 4) (replicate 3 (Slot 1) ++ Release 1 3 ∷ Slot 1 ∷ Release 1 3 ∷ []))) (9 ∷ []) ∷
     []
 
 -- a slot of a log made by hand, by what it says of task 1: whether it ran, and whether it finished; of the others it says nothing
@@ -258,8 +261,8 @@ unfoldable pub refused : Call → Entry
 refused call = record { call = call; outcome = Refused unsoundMachine 0; report = noReport }
 
 -- whether the claim takes a job of task 1 for closed in a log after its release
-unfoldable pub closedIn : (budget deadline : ℕ) → List Entry → Bool
-closedIn budget deadline log = closedBySlot 1 (task 9 budget deadline) log
+unfoldable pub closedIn : (need deadline : ℕ) → List Entry → Bool
+closedIn need deadline log = closedBySlot 1 need deadline log
 
 -- logs made by hand, and what the claim of demand 3 says of them
 unfoldable pub claims : List Bool
@@ -269,20 +272,34 @@ claims =
     not (closedIn 1 2 (idle ∷ idle ∷ ranLast ∷ [])) ∷
     closedIn 1 2 (idle ∷ refused (Slot 1) ∷ ranLast ∷ []) ∷
     eqb (slotCount (idle ∷ refused (Slot 1) ∷ accepted (Finish 1) ∷ ranLast ∷ [])) 2 ∷
-    -- the whole budget, and the last of its slots says that the task finished
+    -- the whole need, and the last of its slots says that the task finished
     closedIn 2 3 (ran ∷ idle ∷ ranLast ∷ []) ∷
     not (closedIn 2 3 (idle ∷ idle ∷ ranLast ∷ [])) ∷
     not (closedIn 2 3 (ran ∷ ran ∷ idle ∷ [])) ∷
+    not (closedIn 2 3 (ran ∷ ran ∷ ranLast ∷ [])) ∷
+    not (closedIn 3 3 (ran ∷ ranLast ∷ idle ∷ [])) ∷
+    closedIn 4 4 (ran ∷ ran ∷ ran ∷ ranLast ∷ []) ∷
+    closedIn 2 2 (ranLast ∷ ranLast ∷ []) ∷
+    not (closedIn 1 1 (slotOf false true ∷ [])) ∷
+    -- what a refused slot says does not count
+    closedIn 1 1 (record { call = Slot 1; outcome = Refused 14 0; report = ran .report } ∷ ranLast ∷ []) ∷
+    -- no other call counts as a slot or as a finish
+    closedIn 1 2 (accepted (Release 2 1) ∷ idle ∷ ranLast ∷ []) ∷
+    not (closedIn 1 1 (accepted (Release 1 1) ∷ idle ∷ [])) ∷
+    not (closedIn 1 1 (accepted (Join (task 9 1 2)) ∷ idle ∷ [])) ∷
     -- an accepted finish of the task, before the deadline
     closedIn 2 2 (idle ∷ accepted (Finish 1) ∷ idle ∷ []) ∷
     not (closedIn 2 2 (refused (Finish 1) ∷ idle ∷ idle ∷ [])) ∷
     not (closedIn 2 2 (accepted (Finish 2) ∷ idle ∷ idle ∷ [])) ∷
     not (closedIn 2 2 (idle ∷ idle ∷ accepted (Finish 1) ∷ [])) ∷
     -- of task 2 these slots say nothing
-    not (closedBySlot 2 (task 9 1 2) (idle ∷ ranLast ∷ [])) ∷
+    not (closedBySlot 2 1 2 (idle ∷ ranLast ∷ [])) ∷
+    closedBySlot 2 1 1 (accepted (Finish 2) ∷ idle ∷ []) ∷
+    not (closedBySlot 2 1 1 (accepted (Finish 1) ∷ idle ∷ [])) ∷
     -- an accepted join adds its task, a refused one does not
     eqb (tableAfter (tableOf example) (accepted (Join (task 9 1 2)) ∷ []) .count) 4 ∷
     eqb (tableAfter (tableOf example) (refused (Join (task 9 1 2)) ∷ []) .count) 3 ∷
+    eqb (getD (tableAfter (tableOf example) (accepted (Release 1 1) ∷ accepted (Join (task 9 1 2)) ∷ []) .tasks) 3 zeroTask .deadline) 2 ∷
     -- of the calls after a release, with two refused slots among them: two slots, by the second of which the job is closed
     eqb (slotCount (drop 1 (answers pressed 2 pressedCalls))) 2 ∷
     closedIn 2 2 (drop 1 (answers pressed 2 pressedCalls)) ∷

@@ -6,7 +6,6 @@ use mathlib.Core.Bool.{Bool, true, false, cond, _&&_, _||_}
 use mathlib.Core.List.{List, [], _∷_, _++_}
 use lib.Dec.{eqb, leb}
 use lib.ListN.{getD}
-use Rattle.tasks.specs.declared.task.Task.{Task}
 use Rattle.tasks.specs.declared.table.Table.{Table}
 use Rattle.tasks.specs.Table.{zeroTask, withTask}
 use Rattle.tasks.specs.Outcome.{isDone}
@@ -19,14 +18,14 @@ use Rattle.machine.specs.declared.call.Call.the-variants.{Release, Finis
 
 -- the call is a slot
 unfoldable pub isSlot : Call → Bool
-isSlot (Release number) = false
+isSlot (Release number need) = false
 isSlot (Finish number) = false
 isSlot (Slot k) = true
 isSlot (Join task) = false
 
 -- the call is a finish of the task of this number
 unfoldable pub isFinishOf : (number : ℕ) → Call → Bool
-isFinishOf number (Release other) = false
+isFinishOf number (Release other need) = false
 isFinishOf number (Finish other) = eqb other number
 isFinishOf number (Slot k) = false
 isFinishOf number (Join task) = false
@@ -57,7 +56,8 @@ unfoldable pub upToSlot : (d : ℕ) → List Entry → List Entry
 upToSlot d [] = []
 upToSlot d (e ∷ log) = cond (eqb d 0) [] (e ∷ upToSlot (cond (acceptedSlot e) (d - 1) d) log)
 
--- "C slot answers say that the task ran, the C-th of them also that it finished"
+-- "C slot answers say that the task ran, the C-th of them also that it finished"; c is the job's need: change 5, "closing means having run e slots or a
+-- finish" (no machine accepts a need of 0; it would count as 1)
 unfoldable pub ranWhole : (number c : ℕ) → List Entry → Bool
 ranWhole number c [] = false
 ranWhole number c (e ∷ log) =
@@ -69,14 +69,13 @@ anyFinish number [] = false
 anyFinish number (e ∷ log) = acceptedFinish number e || anyFinish number log
 
 -- "closed by the D-th slot after that release": among the entries after it up to and including that slot
-unfoldable pub closedBySlot : (number : ℕ) → Task → (after : List Entry) → Bool
-closedBySlot number task after =
-    let window = upToSlot (task .deadline) after in
-    ranWhole number (task .budget) window || anyFinish number window
+unfoldable pub closedBySlot : (number need deadline : ℕ) → (after : List Entry) → Bool
+closedBySlot number need deadline after =
+    let window = upToSlot deadline after in ranWhole number need window || anyFinish number window
 
 -- the table after an accepted call: a join adds its task
 unfoldable pub joinedBy : Call → Table → Table
-joinedBy (Release number) t = t
+joinedBy (Release number need) t = t
 joinedBy (Finish number) t = t
 joinedBy (Slot k) t = t
 joinedBy (Join task) t = withTask t task
@@ -92,15 +91,16 @@ pub record InTime (t : Table) (log : List Entry) : Type 0 where
   pub none-late :
       (before after : List Entry) (e : Entry) → log ≡ before ++ e ∷ after → isSlot (e .call) ≡ true
       → (i : ℕ) → getD (e .report .late) i false ≡ false
-  -- "The job of an accepted release of a task with budget C and deadline D is closed by the D-th slot after that release", where so many follow
+  -- "The job of an accepted release of a task with .. deadline D is closed by the D-th slot after that release", where so many follow; change 5: its need
+  -- is what the release names, D that of the task in the table at that point
   pub all-closed :
-      (before after : List Entry) (e : Entry) (number : ℕ) → log ≡ before ++ e ∷ after
-      → e .call ≡ Release number → isDone (e .outcome) ≡ true
-      → let task = getD (tableAfter t before .tasks) (number - 1) zeroTask in
-      task .deadline ≤ slotCount after → closedBySlot number task after ≡ true
+      (before after : List Entry) (e : Entry) (number need : ℕ) → log ≡ before ++ e ∷ after
+      → e .call ≡ Release number need → isDone (e .outcome) ≡ true
+      → let deadline = getD (tableAfter t before .tasks) (number - 1) zeroTask .deadline in
+      deadline ≤ slotCount after → closedBySlot number need deadline after ≡ true
 
 -- the claim of every list of calls from a fresh machine on a table that is admitted; document 02, change 1: "whichever k, from m to 16, each slot
--- gets", since the slots of a list name any k
+-- gets", since the slots of a list name any k; change 5: "for all choices of e", since its releases name any e
 unfoldable pub Promise : Table → (cores : ℕ) → Type 0
 Promise t cores = judged t cores .admits ≡ true → (calls : List Call) → InTime t (play (start t cores .machine) calls)
 

@@ -14,3 +14,4 @@ pub mod Mask
 pub mod Cases
 pub mod Examples
 pub mod CoreExamples
+pub mod NeedExamples

@@ -1,14 +1,18 @@
--- The example holds: antt computes what is printed for it.
+-- The examples hold: antt computes what is printed for them.
 use mathlib.Core.Path.{_≡_, refl}
-use Rattle.text.specs.Lines.{has, before, after, fieldCount, field}
+use Rattle.text.specs.Lines.{has, before, after, isEmpty, fieldCount, field}
 use Rattle.text.specs.Words.{beginsWith}
-use Rattle.text.specs.Number.{isDigit, allDigits, leadingZero, wellFormed, decimalFrom, decimal, isNumber, digitsOf, decimalText}
+use Rattle.text.specs.Number.{isDigit, allDigits, leadingZero, wellFormed, decimalFrom, decimal, isNumber, numberOf, numberAfter, digitsOf, decimalText}
 use Rattle.text.specs.Fields.{eachNumber, areNumbers}
-use Rattle.text.specs.Output.{furtherNumbers, numbersLine}
-use Rattle.script.specs.Output.{badLine}
-use Rattle.probe.specs.Input.{firstIs, isMachineLine, isEntryLine}
-use Rattle.probe.specs.Printed.{printedFrom, printed}
-use Rattle.probe.specs.Examples.{exampleText, exampleOutput}
+use Rattle.text.specs.Output.{furtherNumbers, numbersLine, refusedLine}
+use Rattle.machine.specs.Machine.{coreAt}
+use Rattle.machine.proofs.Computing.{computing}
+use Rattle.script.specs.Calls.{releaseOf, callWith, callOf}
+use Rattle.script.specs.Output.{badLine, acceptedLine, outcomeLine, answerLine}
+use Rattle.probe.specs.Input.{firstIs, isMachineLine, countOf, coresOf, zeroEntries, isEntryLine, taskOf, jobOf, recordedOf, withEntry, onlyCall, lastLine}
+use Rattle.probe.specs.Output.{entryLine, entryLines, machineLines}
+use Rattle.probe.specs.Printed.{shown, printedFor, printedFrom, printed}
+use Rattle.probe.specs.Examples.{exampleText, exampleOutput, zeroLines, closedMachine, releaseText, releaseOutput, refusedText, refusedOutput}
 
 pub example-holds : printed exampleText ≡ exampleOutput
 unfolding
@@ -18,3 +22,14 @@ unfolding
     firstIs isMachineLine isEntryLine printedFrom printed
     exampleText exampleOutput
 example-holds = refl
+
+pub needs-hold : (printed releaseText ≡ releaseOutput) × (printed refusedText ≡ refusedOutput)
+unfolding
+    has before after isEmpty fieldCount field beginsWith
+    isDigit allDigits leadingZero wellFormed decimalFrom decimal isNumber numberOf numberAfter digitsOf decimalText
+    eachNumber areNumbers furtherNumbers numbersLine refusedLine coreAt computing
+    releaseOf callWith callOf acceptedLine outcomeLine answerLine
+    firstIs isMachineLine countOf coresOf zeroEntries isEntryLine taskOf jobOf recordedOf withEntry onlyCall lastLine
+    entryLine entryLines machineLines shown printedFor printedFrom printed
+    zeroLines closedMachine releaseText releaseOutput refusedText refusedOutput
+needs-hold = (refl, refl)

@@ -2,24 +2,24 @@
 -- and `machine-read`; of an entry's: `no-entry`, `no-eight`, `no-flag` and `entry-read`; of the call's: `no-line`, `no-call`, `more-follows`, `call-read`.
 use Prim.Native.Nat.{ℕ, _+_, _≤_, _<_}
 use native.Mathlib.Omega.{arith}
-use mathlib.Core.Path.{_≡_, refl, sym, ap, _∙_}
+use mathlib.Core.Path.{_≡_, sym, ap, _∙_}
 use mathlib.Core.Bool.{Bool, true, false}
 use mathlib.Core.List.{List}
 use borrow.Author.Tests.{le-leb, lt-leb}
 use lib.Dec.{eqb}
-use lib.ListN.{length, getD, take}
+use lib.ListN.{length, getD, take, replicate}
 use Rattle.laws.proofs.Booleans.{and-left}
 use Rattle.laws.proofs.Parts.{from, past, from-drop, from-length}
 use Rattle.text.specs.Lines.{lineEnd, has, before, field}
 use Rattle.text.specs.Words.{beginsWith}
 use Rattle.text.specs.Number.{decimal}
 use Rattle.text.specs.Fields.{areNumbers}
-use Rattle.probe.specs.Numbers.{NumbersRead}
 use Rattle.text.proofs.Split.{Cut, cut, hasnt-of}
 use Rattle.text.proofs.LineLaws.{no-bytes, some-bytes}
-use Rattle.script.specs.Numbers.{maxDigits, maxNumber}
+use Rattle.script.specs.Numbers.{maxDigits, maxNumber, NumbersRead}
 use Rattle.script.specs.Calls.{callOf}
 use Rattle.script.specs.declared.calls.CallLine.the-variants as Line
+use Rattle.script.proofs.NumbersRead.{entry-is}
 use Rattle.machine.specs.declared.call.Call.{Call}
 use Rattle.probe.specs.Words.{machineWord}
 use Rattle.probe.specs.Input.{firstIs, isMachineLine, countOf, coresOf, isEntryLine, taskOf, jobOf, recordedOf, firstLine, entryOf, onlyCall, lastLine}
@@ -58,30 +58,31 @@ module _ (s : List ℕ) (k : ℕ) (e : k ≡ length (before lineEnd s)) where
     unfolding firstLine firstIs isMachineLine
     no-word w = rw (line .is, ← line .front, w)
 
-    module _ (w : beginsWith machineWord (take k s) ≡ true) (a : List ℕ) where
+    module _ (w : beginsWith machineWord (take k s) ≡ true) where
       pub no-pair : areNumbers maxDigits maxNumber 2 (from (take k s) 8) ≡ false → First.Bad ≡ firstLine s
       unfolding firstLine firstIs isMachineLine
       no-pair n = rw (line .is, ← line .front, w, rw (from-drop (take k s) 8) at n)
 
       pub machine-read :
-          length a ≡ 2 → NumbersRead maxDigits maxNumber (from (take k s) 8) a true → First.Read (getD a 0 0) (getD a 1 0) (k + 1) ≡ firstLine s
+          (a : List ℕ) → NumbersRead maxDigits maxNumber (from (take k s) 8) (replicate 2 0) a true
+          → First.Read (getD a 0 0) (getD a 1 0) (k + 1) ≡ firstLine s
       unfolding firstLine firstIs isMachineLine countOf coresOf
-      machine-read l n =
+      machine-read a n =
           let f = from-drop (take k s) 8 in
-          rw
-          (line .is, ← line .front, w, ← f, ← rw l at (n .is), ← n .each refl 0 (omega arith), ← n .each refl 1 (omega arith), ap length (line .front) ∙ sym e)
+          let is = entry-is maxDigits maxNumber (from (take k s) 8) (replicate 2 0) a n in
+          rw (line .is, ← line .front, w, ← f, ← n .is, ← is 0 (omega arith), ← is 1 (omega arith), ap length (line .front) ∙ sym e)
 
     pub no-eight : areNumbers maxDigits maxNumber 8 (take k s) ≡ false → Entry.Bad ≡ entryOf s
     unfolding entryOf firstIs isEntryLine
     no-eight n = rw (line .is, ← line .front, n)
 
-    module _ (a : List ℕ) (l : length a ≡ 8) (n : NumbersRead maxDigits maxNumber (take k s) a true) where
+    module _ (a : List ℕ) (n : NumbersRead maxDigits maxNumber (take k s) (replicate 8 0) a true) where
       number-at : (i : ℕ) → i < 8 → getD a i 0 ≡ decimal (field i (take k s))
-      number-at i h = n .each refl i (omega arith)
+      number-at i h = entry-is maxDigits maxNumber (take k s) (replicate 8 0) a n i h
 
       pub no-flag : 1 < getD a 3 0 → Entry.Bad ≡ entryOf s
       unfolding entryOf firstIs isEntryLine
-      no-flag o = rw (line .is, ← line .front, ← rw l at (n .is), ← number-at 3 (omega arith), lt-leb (getD a 3 0) 1 o)
+      no-flag o = rw (line .is, ← line .front, ← n .is, ← number-at 3 (omega arith), lt-leb (getD a 3 0) 1 o)
 
       pub entry-read :
           getD a 3 0 ≤ 1
@@ -93,7 +94,7 @@ module _ (s : List ℕ) (k : ℕ) (e : k ≡ length (before lineEnd s)) where
       unfolding entryOf firstIs isEntryLine taskOf jobOf recordedOf
       entry-read o =
           let is = number-at in
-          rw (line .is, ← line .front, ← rw l at (n .is), ← is 3 (omega arith), le-leb (getD a 3 0) 1 o, ap length (line .front) ∙ sym e)
+          rw (line .is, ← line .front, ← n .is, ← is 3 (omega arith), le-leb (getD a 3 0) 1 o, ap length (line .front) ∙ sym e)
           (rw (← is 0 (omega arith), ← is 1 (omega arith), ← is 2 (omega arith), ← is 4 (omega arith), ← is 5 (omega arith), ← is 6 (omega arith), ← is 7 (omega arith)))
 
     pub no-call : callOf (take k s) ≡ Line.Bad → Asked.Bad 34 ≡ lastLine s

@@ -1,4 +1,3 @@
-pub mod NumbersRead
 pub mod InputLaws
 pub mod Filling
 pub mod Showing

@@ -6,7 +6,7 @@ use mathlib.Core.List.{List}
 use lib.ListN.{length}
 use Rattle.laws.proofs.CaseSplits.{by-cond, clash}
 use Rattle.laws.proofs.Parts.{from, from-drop}
-use Rattle.text.specs.Lines.{lineEnd, has, before, after}
+use Rattle.text.specs.Lines.{lineEnd, before}
 use Rattle.text.proofs.Split.{here}
 use Rattle.tasks.specs.Limits.{maxTasks}
 use Rattle.machine.specs.declared.machine.Machine.{Machine}

@@ -1,5 +1,4 @@
 pub mod Words
-pub mod Numbers
 pub mod Input
 pub mod Output
 pub mod Printed

@@ -1,5 +1,4 @@
 // What the lines of the input say. A text starts here with the line that is read; a length is that of a line with its byte 10.
-use crate::numbers::read_numbers;
 use job::job::Job;
 use job::job::fresh_job;
 use machine::call::Call;
@@ -8,6 +7,7 @@ use script::calls::CallLine;
 use script::calls::MAX_DIGITS;
 use script::calls::MAX_NUMBER;
 use script::calls::call_line;
+use script::numbers::read_numbers;
 use tasks::limits::MAX_TASKS;
 use tasks::table::Table;
 use tasks::task::Task;

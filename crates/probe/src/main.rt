@@ -6,7 +6,6 @@ use script::output::put_answer;
 use script::output::put_bad_line;
 
 mod input;
-mod numbers;
 mod output;
 
 ghost use Prim.Native.Nat.{_≤_};

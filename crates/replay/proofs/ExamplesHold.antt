@@ -3,13 +3,13 @@ use mathlib.Core.Path.{_≡_, refl}
 use Rattle.text.specs.Lines.{has, before, after, inFirst, lines, unended, fieldCount, field, isEmpty}
 use Rattle.text.specs.Words.{sameBytes, beginsWith}
 use Rattle.text.specs.Number.{isDigit, allDigits, leadingZero, wellFormed, decimalFrom, decimal, isNumber, numberOf, numberAfter, digitsOf, decimalText}
-use Rattle.text.specs.Fields.{areThree}
+use Rattle.text.specs.Fields.{areThree, eachNumber, areNumbers}
 use Rattle.text.specs.Output.{furtherNumbers, numbersLine, refusedLine}
 use Rattle.reader.specs.Value.{isValue}
 use Rattle.reader.specs.Names.{columnIn, columnsIn, eachNamed, columnsOf, threeNames, beginsWithNames}
 use Rattle.reader.specs.Reading.{refused, threeValues, beginsWithValues, taskOf, ended, valueLines, reading}
 use Rattle.machine.proofs.Computing.{computing}
-use Rattle.script.specs.Calls.{joinOf, callWith, callOf}
+use Rattle.script.specs.Calls.{releaseOf, joinOf, callWith, callOf}
 use Rattle.script.specs.Output.{badLine, runnerCores, reportLine, acceptedLine, outcomeLine, answerLine}
 use Rattle.replay.specs.Calls.{callsFrom, callsStart}
 use Rattle.replay.specs.Script.{onCall, answers, printedAfterStart, printedAfterReading, printedFor, printedAfterCores, printedAfterFirst, printed}
@@ -19,10 +19,10 @@ pub example-holds : printed exampleScript ≡ exampleOutput
 unfolding
     has before after inFirst lines unended fieldCount field sameBytes beginsWith
     isDigit allDigits leadingZero wellFormed decimalFrom decimal isNumber numberOf numberAfter digitsOf decimalText
-    areThree furtherNumbers numbersLine refusedLine
+    areThree eachNumber areNumbers furtherNumbers numbersLine refusedLine
     isValue columnIn columnsIn eachNamed columnsOf threeNames beginsWithNames
     refused threeValues beginsWithValues taskOf ended isEmpty valueLines reading computing
-    joinOf callWith callOf callsFrom callsStart
+    releaseOf joinOf callWith callOf callsFrom callsStart
     badLine runnerCores reportLine acceptedLine outcomeLine answerLine onCall answers
     printedAfterStart printedAfterReading printedFor printedAfterCores printedAfterFirst printed
     exampleScript exampleOutput

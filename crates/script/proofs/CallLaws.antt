@@ -7,16 +7,16 @@ use lib.ListN.{length, drop, length-drop}
 use Rattle.laws.proofs.CaseSplits.{by-cond, clash}
 use Rattle.text.specs.Words.{beginsWith}
 use Rattle.text.specs.Number.{isNumber, numberOf, numberAfter}
-use Rattle.text.specs.Fields.{areThree}
+use Rattle.text.specs.Fields.{areThree, areNumbers}
 use Rattle.text.specs.declared.number.Number.{Number}
 use Rattle.text.proofs.WordLaws.{not-longer}
 use Rattle.text.proofs.NumberLaws.{number-short}
-use Rattle.text.proofs.Lengths.{three-short}
+use Rattle.text.proofs.Lengths.{numbers-short, three-short}
 use Rattle.machine.specs.declared.call.Call.{Call}
-use Rattle.machine.specs.declared.call.Call.the-variants.{Release, Finish, Slot}
+use Rattle.machine.specs.declared.call.Call.the-variants.{Finish, Slot}
 use Rattle.script.specs.Words.{releaseWord, finishWord, joinWord, slotWord}
 use Rattle.script.specs.Numbers.{maxDigits, maxNumber}
-use Rattle.script.specs.Calls.{joinOf, callWith, callOf}
+use Rattle.script.specs.Calls.{releaseOf, joinOf, callWith, callOf}
 use Rattle.script.specs.declared.calls.CallLine.{CallLine}
 use Rattle.script.specs.declared.calls.CallLine.the-variants.{Read}
 
@@ -33,10 +33,10 @@ unfolding callOf
 call-long l c e =
     word-long slotWord l Slot _ c (omega arith) e
     (λ e.
-    word-long releaseWord l Release _ c (omega arith) e
-    (λ e.
     word-long finishWord l Finish _ c (omega arith) e
-    (by-cond (λ r. r ≡ Read c → 5 ≤ length l) (beginsWith joinWord l) (λ p e. omega (arith, not-longer joinWord l p)) (λ p e. clash cc))))
+    (by-cond (λ r. r ≡ Read c → 5 ≤ length l) (beginsWith releaseWord l) (λ p e. omega (arith, not-longer releaseWord l p))
+    (λ p.
+    by-cond (λ r. r ≡ Read c → 5 ≤ length l) (beginsWith joinWord l) (λ p e. omega (arith, not-longer joinWord l p)) (λ p e. clash cc))))
 
 -- a line that is a word of at most eight bytes and a number, or is another line
 number-after-short :
@@ -52,14 +52,18 @@ number-after-short w l f other c h e else =
     (λ p e. else e) e
 
 pub call-short : (l : List ℕ) (c : Call) → callOf l ≡ Read c → length l ≤ 37
-unfolding callOf joinOf
+unfolding callOf releaseOf joinOf
 call-short l c e =
     number-after-short slotWord l Slot _ c (omega arith) e
     (λ e.
-    number-after-short releaseWord l Release _ c (omega arith) e
-    (λ e.
     number-after-short finishWord l Finish _ c (omega arith) e
-    (by-cond (λ r. r ≡ Read c → length l ≤ 37) (beginsWith joinWord l)
+    (by-cond (λ r. r ≡ Read c → length l ≤ 37) (beginsWith releaseWord l)
+    (λ p.
+    by-cond (λ r. r ≡ Read c → length l ≤ 37) (areNumbers maxDigits maxNumber 2 (drop 8 l))
+    (λ n e. omega (arith, numbers-short maxDigits maxNumber 2 (drop 8 l) n, length-drop 8 l))
+    (λ n e. clash cc))
+    (λ p.
+    by-cond (λ r. r ≡ Read c → length l ≤ 37) (beginsWith joinWord l)
     (λ p.
     by-cond (λ r. r ≡ Read c → length l ≤ 37) (areThree maxDigits maxNumber (drop 5 l))
     (λ n e. omega (arith, three-short maxDigits maxNumber (drop 5 l) n, length-drop 5 l))

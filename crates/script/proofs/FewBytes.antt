@@ -67,7 +67,7 @@ report-few r small =
 -- the line of an accepted call: `DONE`, or the report
 accepted-few : (call : Call) (r : Report) → SmallReport r → length (acceptedLine call r) ≤ answerRoom
 unfolding acceptedLine
-accepted-few (Release i) r small = omega arith
+accepted-few (Release i e) r small = omega arith
 accepted-few (Finish i) r small = omega arith
 accepted-few (Slot k) r small = report-few r small
 accepted-few (Join t) r small = omega arith

@@ -1,3 +1,4 @@
+pub mod NumbersRead
 pub mod CallLaws
 pub mod JoinLaws
 pub mod OutputLaws

@@ -40,7 +40,7 @@ bad-put a b c n u v w h p q =
 -- the line of an accepted call that is no slot: the calls' tags are 0 to 3, and a slot's is 2
 pub done-line : (call : Call) (r : Report) → OneOf (0 ∷ 1 ∷ 3 ∷ []) (tagOf the-type call) → acceptedLine call r ≡ doneWord ++ lineEnd ∷ []
 unfolding acceptedLine
-done-line (Release i) r h = refl
+done-line (Release i e) r h = refl
 done-line (Finish i) r h = refl
 done-line (Slot k) r h = absurd (⊎-elim (λ e. omega (arith, e)) (λ h. ⊎-elim (λ e. omega (arith, e)) (λ e. omega (arith, e)) h) h)
 done-line (Join t) r h = refl

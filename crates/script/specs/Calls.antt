@@ -1,4 +1,4 @@
--- The call of a line (docs/HANDBOOK.md, "Replaying calls"): "one call a line: `RELEASE i`, `FINISH i`, `SLOT k`, `JOIN T C D`".
+-- The call of a line (docs/HANDBOOK.md, "Replaying calls"): "one call a line: `RELEASE i e`, `FINISH i`, `SLOT k`, `JOIN T C D`".
 use Prim.Native.Nat.{ℕ}
 use mathlib.Core.List.{List}
 use mathlib.Core.Bool.{cond}
@@ -6,7 +6,7 @@ use lib.ListN.{length, drop}
 use Rattle.text.specs.Lines.{field}
 use Rattle.text.specs.Words.{beginsWith}
 use Rattle.text.specs.Number.{decimal, numberAfter}
-use Rattle.text.specs.Fields.{areThree}
+use Rattle.text.specs.Fields.{areThree, areNumbers}
 use Rattle.text.specs.declared.number.Number.{Number}
 use Rattle.text.specs.declared.number.Number.the-variants as Number
 use Rattle.machine.specs.declared.call.Call.{Call}
@@ -15,6 +15,10 @@ use Rattle.script.specs.Words.{releaseWord, finishWord, joinWord, slotWo
 use Rattle.script.specs.Numbers.{maxDigits, maxNumber}
 use Rattle.script.specs.declared.calls.CallLine.{CallLine}
 use Rattle.script.specs.declared.calls.CallLine.the-variants.{Read, Bad}
+
+-- the release of the fields "i e", if they are two numbers
+unfoldable pub releaseOf : List ℕ → CallLine
+releaseOf f = cond (areNumbers maxDigits maxNumber 2 f) (Read (Release (decimal (field 0 f)) (decimal (field 1 f)))) Bad
 
 -- the join of the fields "T C D", if they are three numbers
 unfoldable pub joinOf : List ℕ → CallLine
@@ -32,6 +36,6 @@ callWith Number.Broken call other = other
 unfoldable pub callOf : List ℕ → CallLine
 callOf l =
     callWith (numberAfter maxDigits maxNumber slotWord l) Slot
-    (callWith (numberAfter maxDigits maxNumber releaseWord l) Release
     (callWith (numberAfter maxDigits maxNumber finishWord l) Finish
+    (cond (beginsWith releaseWord l) (releaseOf (drop (length releaseWord) l))
     (cond (beginsWith joinWord l) (joinOf (drop (length joinWord) l)) Bad)))

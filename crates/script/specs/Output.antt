@@ -31,7 +31,7 @@ reportLine r =
 
 -- "`DONE` for an accepted release, finish or join", and the report "for an accepted slot"
 unfoldable pub acceptedLine : Call → Report → List ℕ
-acceptedLine (Release i) r = doneWord ++ lineEnd ∷ []
+acceptedLine (Release i e) r = doneWord ++ lineEnd ∷ []
 acceptedLine (Finish i) r = doneWord ++ lineEnd ∷ []
 acceptedLine (Slot k) r = reportLine r
 acceptedLine (Join t) r = doneWord ++ lineEnd ∷ []

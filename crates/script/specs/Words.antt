@@ -2,7 +2,7 @@
 use Prim.Native.Nat.{ℕ}
 use mathlib.Core.List.{List, [], _∷_}
 
--- "RELEASE" with its space, before i
+-- "RELEASE" with its space, before i e
 abbrev pub releaseWord : List ℕ
 releaseWord = 82 ∷ 69 ∷ 76 ∷ 69 ∷ 65 ∷ 83 ∷ 69 ∷ 32 ∷ []
 

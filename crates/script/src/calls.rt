@@ -1,4 +1,5 @@
 // The call of a line, which stands here without its byte 10.
+use crate::numbers::read_numbers;
 use machine::call::Call;
 use tasks::task::Task;
 use text::bytes;
@@ -7,7 +8,7 @@ use text::fields::Numbers;
 use text::number;
 use text::number::Number;
 ghost use mathlib.Core.Path.{_≡_};
-ghost use Rattle.script.specs.Calls.{callOf};
+ghost use Rattle.script.specs.Calls.{releaseOf, joinOf, callOf};
 
 // The longest number of a script, in digits.
 pub const MAX_DIGITS: usize = 10;
@@ -20,23 +21,24 @@ pub enum CallLine {
     Bad,
 }
 
-// The call of a line.
-pub fn call_line(line: &[u8]) -> CallLine
-    ensures { λ r. ⌜ r ≡ callOf (now (line .entry)) ⌝ }
+// The release of the fields of a line.
+fn release_fields(fields: &[u8]) -> CallLine
+    ensures { λ r. ⌜ r ≡ releaseOf (now (fields .entry)) ⌝ }
 {
-    if let Number::Read(available) = number::number_after(line, b"SLOT ", MAX_DIGITS, MAX_NUMBER) {
-        return CallLine::Read(Call::Slot(available));
-    }
-    if let Number::Read(number) = number::number_after(line, b"RELEASE ", MAX_DIGITS, MAX_NUMBER) {
-        return CallLine::Read(Call::Release(number));
-    }
-    if let Number::Read(number) = number::number_after(line, b"FINISH ", MAX_DIGITS, MAX_NUMBER) {
-        return CallLine::Read(Call::Finish(number));
-    }
-    if !bytes::begins_with(line, b"JOIN ") {
+    let mut numbers = [0u32; 2];
+    if !read_numbers(fields, &mut numbers, MAX_DIGITS, MAX_NUMBER) {
         return CallLine::Bad;
     }
-    let fields = &line[5..];
+    CallLine::Read(Call::Release {
+        number: numbers[0],
+        need: numbers[1],
+    })
+}
+
+// The join of the fields of a line.
+fn join_fields(fields: &[u8]) -> CallLine
+    ensures { λ r. ⌜ r ≡ joinOf (now (fields .entry)) ⌝ }
+{
     let Numbers::Three {
         first: period,
         second: budget,
@@ -54,4 +56,23 @@ pub fn call_line(line: &[u8]) -> CallLine
         budget,
         deadline,
     }))
+}
+
+// The call of a line.
+pub fn call_line(line: &[u8]) -> CallLine
+    ensures { λ r. ⌜ r ≡ callOf (now (line .entry)) ⌝ }
+{
+    if let Number::Read(available) = number::number_after(line, b"SLOT ", MAX_DIGITS, MAX_NUMBER) {
+        return CallLine::Read(Call::Slot(available));
+    }
+    if let Number::Read(number) = number::number_after(line, b"FINISH ", MAX_DIGITS, MAX_NUMBER) {
+        return CallLine::Read(Call::Finish(number));
+    }
+    if bytes::begins_with(line, b"RELEASE ") {
+        return release_fields(&line[8..]);
+    }
+    if bytes::begins_with(line, b"JOIN ") {
+        return join_fields(&line[5..]);
+    }
+    CallLine::Bad
 }

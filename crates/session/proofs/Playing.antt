@@ -4,41 +4,45 @@ use Prim.Native.Nat.{ℕ, suc, _+_, _-_, _≤_, _<_}
 use native.Mathlib.Omega.{arith}
 use mathlib.Core.Path.{_≡_, refl}
 use mathlib.Core.List.{List, [], _∷_, _++_, append-assoc}
-use lib.ListN.{length, replicate}
+use lib.ListN.{length, getD, replicate}
 use Rattle.text.specs.Output.{Put}
 use Rattle.text.proofs.Putting.{Partly, partly-none, partly-more, partly-all}
+use Rattle.tasks.specs.Table.{zeroTask}
 use Rattle.tasks.specs.declared.task.Task.{Task}
 use Rattle.tasks.specs.declared.table.Table.{Table}
 use Rattle.machine.specs.Calls.{start, step, release, slot}
 use Rattle.machine.specs.Play.{play}
 use Rattle.machine.specs.InTime.{isSlot}
-use Rattle.machine.specs.Cases.{tableOf, releases, session}
+use Rattle.machine.specs.Cases.{tableOf, releases, allReleased, session}
 use Rattle.machine.specs.declared.machine.Machine.{Machine}
 use Rattle.machine.specs.declared.answer.Answer.{Answer}
 use Rattle.machine.specs.declared.call.Call.{Call}
 use Rattle.machine.specs.declared.call.Call.the-variants.{Release, Slot}
 use Rattle.session.specs.Printed.{slotLine, slotLinesFrom}
 
--- m is the machine after the releases of the tasks 1 to n of m₀: whatever calls follow, the lines are the same
-abbrev pub Released : Machine → ℕ → Machine → Type 0
-Released m₀ n m = (calls : List Call) → slotLinesFrom 1 (play m₀ (releases n ++ calls)) ≡ slotLinesFrom 1 (play m calls)
+-- m is the machine after the releases of the tasks 1 to n of a table on m₀: whatever calls follow, the lines are the same
+abbrev pub Released : Machine → Table → ℕ → Machine → Type 0
+Released m₀ t n m = (calls : List Call) → slotLinesFrom 1 (play m₀ (releases t n ++ calls)) ≡ slotLinesFrom 1 (play m calls)
 
-pub released-none : (m : Machine) → Released m 0 m
+pub released-none : (m : Machine) (t : Table) → Released m t 0 m
 unfolding releases
-released-none m calls = refl
+released-none m t calls = refl
 
-pub released-more : (m₀ m : Machine) (n : ℕ) → Released m₀ n m → Released m₀ (suc n) (release m (suc n) .machine)
+pub released-more :
+    (m₀ m : Machine) (t : Table) (n : ℕ) → Released m₀ t n m → Released m₀ t (suc n) (release m (suc n) (getD (t .tasks) n zeroTask .budget) .machine)
 unfolding releases play step isSlot slotLinesFrom
-released-more m₀ m n h calls = rw (append-assoc (releases n) (Release (suc n) ∷ []) calls) (h (Release (suc n) ∷ calls))
+released-more m₀ m t n h calls =
+    let r = Release (suc n) (getD (t .tasks) n zeroTask .budget) in
+    rw (append-assoc (releases t n) (r ∷ []) calls) (h (r ∷ calls))
 
 -- the session of some tasks, from the machine after their releases
 pub session-lines :
-    (tasks : List Task) (cores slots : ℕ) (m : Machine) (a : Answer) (t : Table) → Released (a .machine) (length tasks) m → a ≡ start t cores
+    (tasks : List Task) (cores slots : ℕ) (m : Machine) (a : Answer) (t : Table) → Released (a .machine) t (length tasks) m → a ≡ start t cores
     → t ≡ tableOf tasks → slotLinesFrom 1 (session tasks cores slots) ≡ slotLinesFrom 1 (play m (replicate slots (Slot cores)))
-unfolding session
+unfolding session allReleased
 session-lines tasks cores slots m a t h e f =
     let q : start (tableOf tasks) cores .machine ≡ a .machine = rw (e, f) in
-    rw q (h (replicate slots (Slot cores)))
+    rw q (rw f at (h (replicate slots (Slot cores))))
 
 -- the lines of some slots of a machine, with k cores each, the first of which has the number n
 abbrev slotsFrom : ℕ → Machine → (k slots : ℕ) → List ℕ

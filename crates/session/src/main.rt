@@ -10,6 +10,7 @@ ghost use mathlib.Core.Path.{_≡_};
 ghost use mathlib.Core.List.{List, _++_};
 ghost use lib.ListN.{length, replicate};
 ghost use Rattle.text.specs.Output.{Put, Holds};
+ghost use Rattle.tasks.specs.Limits.{maxTasks};
 ghost use Rattle.machine.specs.Play.{play as log};
 ghost use Rattle.machine.specs.Cases.{task, releases};
 ghost use Rattle.machine.specs.declared.call.Call.{Call};
@@ -62,14 +63,16 @@ fn task(period: u32, budget: u32, deadline: u32) -> Task
     }
 }
 
-// The machine after the release of its first `count` tasks, which print nothing.
-fn released(mut machine: Machine, count: u32) -> Machine
-    ensures { λ r. ⌜ ((calls : List Call) → slotLinesFrom 1 (log machine (releases count ++ calls)) ≡ slotLinesFrom 1 (log r calls)) ⌝ }
+// The machine after the releases of the first `count` tasks of a table with their whole budgets, which print nothing.
+fn released(mut machine: Machine, table: Table, count: u32) -> Machine
+    requires { ⌜ count ≤ maxTasks ⌝ }
+    ensures { λ r. ⌜ ((calls : List Call) → slotLinesFrom 1 (log machine (releases table count ++ calls)) ≡ slotLinesFrom 1 (log r calls)) ⌝ }
 {
     let mut number: u32 = 0;
     while number < count {
+        let task = table.tasks[number as usize];
         number += 1;
-        let answer = machine.release(number);
+        let answer = machine.release(number, task.budget);
         machine = answer.machine;
     }
     machine
@@ -86,7 +89,7 @@ fn case_j() -> Machine
     table.count = 3;
     let answer = Machine::start(table, CASE_J_CORES);
     let machine = answer.machine;
-    released(machine, 3)
+    released(machine, table, 3)
 }
 
 // Two tasks 5, 5, 5 on 1 core.
@@ -99,7 +102,7 @@ fn case_k() -> Machine
     table.count = 2;
     let answer = Machine::start(table, CASE_K_CORES);
     let machine = answer.machine;
-    released(machine, 2)
+    released(machine, table, 2)
 }
 
 // Puts what is printed at the start of the output: how many bytes it is.

@@ -56,3 +56,7 @@ notAdmitted = 13
 -- change 1: "A slot with k below m or above 16: number 14"
 abbrev pub slotCoresOutOfRange : ℕ
 slotCoresOutOfRange = 14
+
+-- change 5: "e of 0 or above C: number 15"
+abbrev pub needOutOfRange : ℕ
+needOutOfRange = 15

@@ -27,3 +27,5 @@ pub const TABLE_FULL: u32 = 12;
 pub const NOT_ADMITTED: u32 = 13;
 
 pub const SLOT_CORES_OUT_OF_RANGE: u32 = 14;
+
+pub const NEED_OUT_OF_RANGE: u32 = 15;

@@ -7,10 +7,10 @@ use Rattle.bench_slots.proofs.play.Statement.{statement}
 use Rattle.bench_slots.proofs.play.Tie as tie
 
 abbrev Inv-loop : tie.InvT-loop
-Inv-loop count slots after₀ sum₀ number₀ next₀ after sum number next = (number ≤ slots) × (next ≤ count)
+Inv-loop count slots table after₀ sum₀ number₀ next₀ after sum number next = (number ≤ slots) × (next ≤ count)
 
 abbrev μ-loop : tie.MeasureT-loop
-μ-loop count slots after₀ sum₀ number₀ next₀ after sum number next = (maxTasks + 1) * (slots - number) + (count - next)
+μ-loop count slots table after₀ sum₀ number₀ next₀ after sum number next = (maxTasks + 1) * (slots - number) + (count - next)
 
 pub play-spec : {M : Type 1} → statement M
 play-spec =
@@ -18,6 +18,8 @@ play-spec =
     (tie.spec
     Inv-loop
     μ-loop
+    (λ c. omega arith)
+    (λ c. omega arith)
     (λ c. omega arith)
     (λ c. omega arith)
     (λ c. omega arith)

@@ -4,24 +4,26 @@ use native.Mathlib.Numerals.{add-one}
 use native.Mathlib.Omega.{arith}
 use mathlib.Core.Path.{_≡_}
 use borrow.Author.Needs.{needs}
+use Rattle.tasks.specs.Table.{zeroTask}
 use Rattle.session.proofs.Playing.{Released, released-none, released-more}
 use Rattle.session.proofs.released.Statement.{statement}
 use Rattle.session.proofs.released.Tie as tie
 
 abbrev Inv-loop : tie.InvT-loop
-Inv-loop machine₀ count number₀ machine number = (number ≤ count) × Released machine₀ number machine
+Inv-loop machine₀ count table number₀ machine number = (number ≤ count) × Released machine₀ table number machine
 
 abbrev μ-loop : tie.MeasureT-loop
-μ-loop machine₀ count number₀ machine number = count - number
+μ-loop machine₀ count table number₀ machine number = count - number
 
 loop-holds : tie.Need-loop-holds Inv-loop μ-loop
-loop-holds c = (omega arith, released-none _)
+loop-holds c = (omega arith, released-none _ _)
 
 loop-again : tie.Need-loop-again Inv-loop μ-loop
+unfolding zeroTask
 loop-again c =
     let r = c .before in
-    let l = r .before .before in
-    (omega arith, rw (r .release .ensures, add-one (l .loop .number)) (released-more _ _ _ (l .loop .inv .1)))
+    let l = r .before .before .before in
+    (omega arith, rw (r .release .ensures, add-one (l .loop .number)) (released-more _ _ _ _ (l .loop .inv .1)))
 
 returns : tie.Need-returns Inv-loop μ-loop
 returns c =
@@ -36,6 +38,9 @@ released-spec =
     Inv-loop
     μ-loop
     loop-holds
+    (λ c. search needs)
+    (λ c. search needs)
+    (λ c. search needs)
     (λ c. omega arith)
     (λ c κs. search needs)
     (λ c. omega arith)

@@ -1,16 +1,15 @@
 -- `entry_line` meets its contract: by the line's end, its eight numbers, and the fourth of them.
 use Prim.Native.Nat.{ℕ}
 use native.Mathlib.Nat.{le-of-lt}
-use mathlib.Core.Path.{_≡_, sym}
+use mathlib.Core.Path.{sym}
 use mathlib.Core.Bool.{true}
 use mathlib.Core.List.{List}
 use borrow.Author.Tests.{not-false}
 use borrow.Author.Needs.{needs}
-use lib.ListN.{length, take}
+use lib.ListN.{take, replicate}
 use lib.Seq.{length-take-le}
 use Rattle.laws.proofs.Booleans.{was-false}
-use Rattle.probe.specs.Numbers.{NumbersRead}
-use Rattle.script.specs.Numbers.{maxDigits, maxNumber}
+use Rattle.script.specs.Numbers.{maxDigits, maxNumber, NumbersRead}
 use Rattle.probe.proofs.InputLaws.{no-entry, no-eight, no-flag, entry-read}
 use Rattle.probe.proofs.input.entry_line.Statement.{statement}
 use Rattle.probe.proofs.input.entry_line.Tie as tie
@@ -28,33 +27,30 @@ line-of c = c .before .before .before
 abbrev numbers : tie.After-read-numbers → List ℕ
 numbers c = c .read-numbers .last .1 .0
 
-eight : (c : tie.After-read-numbers) → length (numbers c) ≡ 8
-eight c = search needs
-
 eight-read :
     (c : tie.Else2)
     → let n = c .before .before in
     let d = line-of n in
-    NumbersRead maxDigits maxNumber (take (d .before .find .result) (d .before .before .before .args .text .now)) (numbers n) true
+    NumbersRead maxDigits maxNumber (take (d .before .find .result) (d .before .before .before .args .text .now)) (replicate 8 0) (numbers n) true
 eight-read c = let n = c .before .before in rw (not-false (n .read-numbers .result) (c .if2 .left)) at (n .read-numbers .ensures)
 
 returns-2 : tie.Need-returns-2
 returns-2 c =
     let n = c .before .before in
     let d = line-of n in
-    no-eight _ _ (d .before .find .ensures) (d .if1 .left) (rw (eight n) at (was-false (n .read-numbers .ensures .is) (c .if2 .taken)))
+    no-eight _ _ (d .before .find .ensures) (d .if1 .left) (was-false (n .read-numbers .ensures .is) (c .if2 .taken))
 
 returns-3 : tie.Need-returns-3
 returns-3 c =
     let n = c .before .before .before in
     let d = line-of n in
-    no-flag _ _ (d .before .find .ensures) (d .if1 .left) _ (eight n) (eight-read (c .before)) (c .if3 .taken)
+    no-flag _ _ (d .before .find .ensures) (d .if1 .left) _ (eight-read (c .before)) (c .if3 .taken)
 
 returns-4 : tie.Need-returns-4
 returns-4 c =
     let n = c .before .before .before in
     let d = line-of n in
-    entry-read _ _ (d .before .find .ensures) (d .if1 .left) _ (eight n) (eight-read (c .before)) (c .if3 .left)
+    entry-read _ _ (d .before .find .ensures) (d .if1 .left) _ (eight-read (c .before)) (c .if3 .left)
 
 pub entry-line-spec : {M : Type 1} → statement M
 entry-line-spec =

@@ -39,12 +39,6 @@ word-fits c = not-longer machineWord _ (word c)
 abbrev word-of : tie.After-read-numbers → tie.Else2
 word-of c = c .before .before .before
 
-abbrev numbers : tie.After-read-numbers → List ℕ
-numbers c = c .read-numbers .last .1 .0
-
-two : (c : tie.After-read-numbers) → length (numbers c) ≡ 2
-two c = search needs
-
 returns-2 : tie.Need-returns-2
 returns-2 c =
     let w = c .before in
@@ -62,14 +56,14 @@ returns-3 c =
     let n = c .before .before in
     let w = word-of n in
     let d = line-of (w .before) in
-    no-pair _ _ (d .before .find .ensures) (d .if1 .left) (word w) (numbers n) (rw (two n) at (was-false (n .read-numbers .ensures .is) (c .if3 .taken)))
+    no-pair _ _ (d .before .find .ensures) (d .if1 .left) (word w) (was-false (n .read-numbers .ensures .is) (c .if3 .taken))
 
 returns-4 : tie.Need-returns-4
 returns-4 c =
     let n = c .before .before in
     let w = word-of n in
     let d = line-of (w .before) in
-    machine-read _ _ (d .before .find .ensures) (d .if1 .left) (word w) (numbers n) (two n) (rw (not-false (n .read-numbers .result) (c .if3 .left)) at (n .read-numbers .ensures))
+    machine-read _ _ (d .before .find .ensures) (d .if1 .left) (word w) _ (rw (not-false (n .read-numbers .result) (c .if3 .left)) at (n .read-numbers .ensures))
 
 pub first-line-spec : {M : Type 1} → statement M
 first-line-spec =

@@ -3,9 +3,9 @@ use Prim.Native.Nat.{ℕ, _≤_}
 use mathlib.Core.Path.{_≡_, sym, ap, _∙_}
 use mathlib.Core.Bool.{true, false, cond}
 use mathlib.Core.List.{List}
+use borrow.Author.Needs.{needs}
 use lib.ListN.{length, drop}
-use Rattle.laws.proofs.Booleans.{was-true, was-false}
-use Rattle.laws.proofs.Parts.{from, from-drop}
+use Rattle.laws.proofs.Parts.{from-drop}
 use Rattle.text.specs.Words.{beginsWith}
 use Rattle.text.specs.Number.{numberAfter}
 use Rattle.text.specs.declared.number.Number.the-variants.{Broken}
@@ -13,50 +13,52 @@ use Rattle.text.proofs.WordLaws.{not-longer}
 use Rattle.script.specs.declared.calls.CallLine.the-variants.{Bad}
 use Rattle.script.specs.Words.{releaseWord, finishWord, joinWord, slotWord}
 use Rattle.script.specs.Numbers.{maxDigits, maxNumber}
-use Rattle.script.specs.Calls.{joinOf, callWith, callOf}
-use Rattle.script.proofs.JoinLaws.{join-broken, join-longer, join-read}
-use borrow.Author.Needs.{needs}
+use Rattle.script.specs.Calls.{releaseOf, joinOf, callWith, callOf}
 use Rattle.script.proofs.calls.call_line.Statement.{statement}
 use Rattle.script.proofs.calls.call_line.Tie as tie
 
--- the line, from the place where it was no slot; and that place and the next, where it was no release either, from those after them
+-- the line, from the place where it was no slot; and that place, from the next, where it was no finish either
 abbrev line : tie.After-enum-told → List ℕ
 line c = c .before .before .before .before .before .args .line .now
 
 abbrev past-slot : tie.After-enum-told2 → tie.After-enum-told
 past-slot c = c .before .before .before .before
 
-abbrev past-release : tie.After-enum-told3 → tie.After-enum-told2
-past-release c = c .before .before .before .before
-
 no-slot : (c : tie.After-enum-told) → numberAfter maxDigits maxNumber slotWord (line c) ≡ Broken
 no-slot c = sym (c .before .before .number-after .ensures) ∙ c .enum-told .given .1
 
-no-release : (c : tie.After-enum-told2) → numberAfter maxDigits maxNumber releaseWord (line (past-slot c)) ≡ Broken
-no-release c = sym (c .before .before .number-after2 .ensures) ∙ c .enum-told2 .given .1
+no-finish : (c : tie.After-enum-told2) → numberAfter maxDigits maxNumber finishWord (line (past-slot c)) ≡ Broken
+no-finish c = sym (c .before .before .number-after2 .ensures) ∙ c .enum-told2 .given .1
 
-no-finish : (c : tie.After-enum-told3) → numberAfter maxDigits maxNumber finishWord (line (past-slot (past-release c))) ≡ Broken
-no-finish c = sym (c .before .before .number-after3 .ensures) ∙ c .enum-told3 .given .1
-
--- it is none of the three: a join, or no call
-joins :
-    (c : tie.After-enum-told3)
-    → let l = line (past-slot (past-release c)) in callOf l ≡ cond (beginsWith joinWord l) (joinOf (drop (length joinWord) l)) Bad
+-- it is neither: a release, a join, or no call
+others :
+    (c : tie.After-enum-told2)
+    → let l = line (past-slot c) in
+    callOf l ≡ cond (beginsWith releaseWord l) (releaseOf (drop (length releaseWord) l)) (cond (beginsWith joinWord l) (joinOf (drop (length joinWord) l)) Bad)
 unfolding callOf callWith
-joins c = let r = past-release c in rw (no-slot (past-slot r), no-release r, no-finish c)
+others c = rw (no-slot (past-slot c), no-finish c)
 
--- it begins with the word of a join, whose fields follow
-abbrev join-line : tie.Else1 → List ℕ
-join-line c = line (past-slot (past-release (c .before .before .before)))
+-- the line where the word of a release is tried, and where that of a join is
+abbrev try-release : tie.After-begins-with → List ℕ
+try-release c = line (past-slot (c .before .before))
 
-begins : (c : tie.Else1) → beginsWith joinWord (join-line c) ≡ true
-begins c = was-true (c .before .begins-with .ensures) (c .if1 .left)
+abbrev try-join : tie.After-begins-with2 → List ℕ
+try-join c = try-release (c .before .before .before)
 
-join-fits : (c : tie.Else1) → 5 ≤ length (join-line c)
-join-fits c = not-longer joinWord _ (begins c)
+begins-release : (c : tie.Then1) → beginsWith releaseWord (try-release (c .before)) ≡ true
+begins-release c = sym (c .before .begins-with .ensures) ∙ c .if1 .taken
 
-join-is : (c : tie.Else1) → callOf (join-line c) ≡ joinOf (from (join-line c) 5)
-join-is c = joins (c .before .before .before) ∙ rw (begins c) (ap joinOf (sym (from-drop (join-line c) 5)))
+no-release : (c : tie.Else1) → beginsWith releaseWord (try-release (c .before)) ≡ false
+no-release c = sym (c .before .begins-with .ensures) ∙ c .if1 .left
+
+begins-join : (c : tie.Then2) → beginsWith joinWord (try-join (c .before)) ≡ true
+begins-join c = sym (c .before .begins-with2 .ensures) ∙ c .if2 .taken
+
+release-fits : (c : tie.Then1) → 8 ≤ length (try-release (c .before))
+release-fits c = not-longer releaseWord _ (begins-release c)
+
+join-fits : (c : tie.Then2) → 5 ≤ length (try-join (c .before))
+join-fits c = not-longer joinWord _ (begins-join c)
 
 returns : tie.Need-returns
 unfolding callOf callWith
@@ -69,29 +71,24 @@ returns-2 c =
     rw (no-slot (n .before .before), sym (n .number-after2 .ensures) ∙ c .before .number .given .1)
 
 returns-3 : tie.Need-returns-3
-unfolding callOf callWith
 returns-3 c =
-    let n = c .before .before .before in
-    let r = n .before .before in
-    rw (no-slot (past-slot r), no-release r, sym (n .number-after3 .ensures) ∙ c .before .number2 .given .1)
+    let t = c .before .before in
+    c .release-fields .ensures
+    ∙ ap releaseOf (from-drop (try-release (t .before)) 8)
+    ∙ sym (others (t .before .before .before) ∙ rw (begins-release t))
 
 returns-4 : tie.Need-returns-4
-returns-4 c = sym (joins (c .before .before .before) ∙ rw (was-false (c .before .begins-with .ensures) (c .if1 .taken)))
-
-sub-fields : tie.Need-sub-fields
-sub-fields c = join-fits c
-
-part-fields-start : tie.Need-part-fields-start
-part-fields-start c = join-fits c
+returns-4 c =
+    let t = c .before .before in
+    let e = t .before .before .before in
+    c .join-fields .ensures
+    ∙ ap joinOf (from-drop (try-join (t .before)) 5)
+    ∙ sym (others (e .before .before .before) ∙ rw (no-release e, begins-join t))
 
 returns-5 : tie.Need-returns-5
-returns-5 c = let n = c .before .before in join-broken _ (sym (n .three-numbers .ensures) ∙ c .enum-told4 .given .1) ∙ sym (join-is (n .before .before))
-
-returns-6 : tie.Need-returns-6
-returns-6 c = let f = c .before .before in let n = f .before .before in join-longer _ _ _ _ _ (sym (n .three-numbers .ensures) ∙ f .period .given .1) (c .if2 .taken) ∙ sym (join-is (n .before .before))
-
-returns-7 : tie.Need-returns-7
-returns-7 c = let f = c .before .before in let n = f .before .before in join-read _ _ _ _ _ (sym (n .three-numbers .ensures) ∙ f .period .given .1) (c .if2 .left) ∙ sym (join-is (n .before .before))
+returns-5 c =
+    let e = c .before .before .before in
+    sym (others (e .before .before .before) ∙ rw (no-release e, sym (c .before .begins-with2 .ensures) ∙ c .if2 .left))
 
 pub call-line-spec : {M : Type 1} → statement M
 call-line-spec =
@@ -109,18 +106,16 @@ call-line-spec =
     (λ c. search needs)
     (λ c. search needs)
     (λ c κs. search needs)
+    release-fits
+    release-fits
     (λ c. search needs)
+    (λ c κs. search needs)
     returns-3
     (λ c. search needs)
+    (λ c κs. search needs)
+    join-fits
+    join-fits
     (λ c. search needs)
     (λ c κs. search needs)
     returns-4
-    sub-fields
-    part-fields-start
-    (λ c. search needs)
-    (λ c κs. search needs)
-    (λ c. search needs)
-    (λ c. search needs)
-    returns-5
-    returns-6
-    returns-7)
+    returns-5)

@@ -1,38 +1,38 @@
--- `read_numbers` meets its contract. The invariant: the array's first entries are the numbers of the line's first fields.
+-- `read_numbers` meets its contract. The invariant: the array's first entries are done, and the rest of the line goes into the others.
 use Prim.Native.Nat.{_-_}
 use native.Mathlib.Omega.{arith}
-use mathlib.Core.Path.{_≡_, refl, sym, _∙_}
+use mathlib.Core.Path.{_≡_, sym, _∙_}
 use borrow.Author.Needs.{needs}
 use lib.ListN.{length, length-set}
 use Rattle.text.specs.Lines.{space}
 use Rattle.text.specs.Number.{numberUpTo}
 use Rattle.text.specs.declared.number.Before.the-variants.{Read}
-use Rattle.probe.proofs.NumbersRead.{Reading, reading-none, reading-more, no-number, last-field, fields-left}
-use Rattle.probe.proofs.numbers.read_numbers.Statement.{statement}
-use Rattle.probe.proofs.numbers.read_numbers.Tie as tie
+use Rattle.script.proofs.NumbersRead.{Reading, reading-none, reading-more, no-number, last-field, fields-left}
+use Rattle.script.proofs.numbers.read_numbers.Statement.{statement}
+use Rattle.script.proofs.numbers.read_numbers.Tie as tie
 
 abbrev Inv-loop : tie.InvT-loop
-Inv-loop line numbers₀ digits largest rest₀ i₀ numbers rest i = Reading digits largest line numbers rest i × (length numbers ≡ length numbers₀)
+Inv-loop line numbers₀ digits largest rest₀ i₀ numbers rest i = Reading digits largest line numbers₀ numbers rest i
 
 abbrev μ-loop : tie.MeasureT-loop
 μ-loop line numbers₀ digits largest rest₀ i₀ numbers rest i = length numbers - i
 
 loop-holds : tie.Need-loop-holds Inv-loop μ-loop
-loop-holds c = (reading-none _ _ _ _, refl)
+loop-holds c = reading-none _ _ _ _
 
 same-length : tie.Need-same-length Inv-loop μ-loop
-same-length c = c .before .before .before .before .loop .inv .1
+same-length c = c .before .before .before .before .loop .inv .size
 
 returns : tie.Need-returns Inv-loop μ-loop
 returns c =
     let n = c .before .before in
     let l = n .before .before in
-    no-number _ _ _ _ _ _ (l .loop .inv .0) (n .before .loop-test .taken) (sym (n .number-up-to .ensures) ∙ c .enum-told .given .1)
+    no-number _ _ _ _ _ _ _ (l .loop .inv) (n .before .loop-test .taken) (sym (n .number-up-to .ensures) ∙ c .enum-told .given .1)
 
 mul-numbers : tie.Need-mul-numbers Inv-loop μ-loop
 mul-numbers c =
     let t = c .before .before .before .before in
-    omega (arith, t .loop-test .taken, t .before .loop .inv .1, t .before .before .before .before .good)
+    omega (arith, t .loop-test .taken, t .before .loop .inv .size, t .before .before .before .before .good)
 
 slice-write-numbers : tie.Need-slice-write-numbers Inv-loop μ-loop
 slice-write-numbers c = c .before .before .before .before .loop-test .taken
@@ -47,18 +47,18 @@ read-is :
 read-is c = sym (c .before .before .number-up-to .ensures) ∙ c .number .given .1
 
 same-length-2 : tie.Need-same-length-2 Inv-loop μ-loop
-same-length-2 c = simp length-set (c .before .before .before .before .before .before .loop .inv .1)
+same-length-2 c = simp length-set (c .before .before .before .before .before .before .loop .inv .size)
 
 returns-2 : tie.Need-returns-2 Inv-loop μ-loop
 returns-2 c =
     let n = c .before .before in
     let t = n .before .before .before in
-    last-field _ _ _ _ _ _ (t .before .loop .inv .0) (t .loop-test .taken) _ _ (read-is n) (c .if1 .taken)
+    last-field _ _ _ _ _ _ _ (t .before .loop .inv) (t .loop-test .taken) _ _ (read-is n) (c .if1 .taken)
 
 add-rest : tie.Need-add-rest Inv-loop μ-loop
 add-rest c =
     let l = c .before .before .before .before .before .before in
-    omega (arith, c .if1 .left, l .loop .inv .0 .few, l .before .before .before .good)
+    omega (arith, c .if1 .left, l .loop .inv .few, l .before .before .before .good)
 
 loop-less : tie.Need-loop-less Inv-loop μ-loop
 loop-less c =
@@ -70,13 +70,13 @@ loop-again c =
     let e = c .before in
     let n = e .before .before in
     let t = n .before .before .before in
-    (reading-more _ _ _ _ _ _ (t .before .loop .inv .0) (t .loop-test .taken) _ _ (read-is n) (e .if1 .left), simp length-set (t .before .loop .inv .1))
+    reading-more _ _ _ _ _ _ _ (t .before .loop .inv) (t .loop-test .taken) _ _ (read-is n) (e .if1 .left)
 
 same-length-3 : tie.Need-same-length-3 Inv-loop μ-loop
-same-length-3 c = c .before .loop .inv .1
+same-length-3 c = c .before .loop .inv .size
 
 returns-3 : tie.Need-returns-3 Inv-loop μ-loop
-returns-3 c = fields-left _ _ _ _ _ _ (c .before .loop .inv .0) (c .loop-test .left)
+returns-3 c = fields-left _ _ _ _ _ _ _ (c .before .loop .inv) (c .loop-test .left)
 
 pub read-numbers-spec : {M : Type 1} → statement M
 read-numbers-spec =
