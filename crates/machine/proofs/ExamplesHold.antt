@@ -16,7 +16,7 @@ use Rattle.tasks.specs.Outcome.{isDone}
 use Rattle.machine.specs.Slot.{noReport}
 use Rattle.job.specs.FormerSound.{formerJobSound}
 use Rattle.machine.specs.Calls.{start}
-use Rattle.machine.specs.FormerRelease.{wholeJob, formerJobsSound, formerSound, formerRelease}
+use Rattle.machine.specs.FormerRelease.{wholeJob, wholeRelease, formerJobsSound, formerSound, formerRelease}
 use Rattle.machine.specs.Play.{Entry, play, machineAfter}
 use Rattle.machine.specs.InTime.{isFinishOf, acceptedFinish, saysRan, saysFinished, slotCount, upToSlot, ranWhole, anyFinish, tableAfter, joinedBy, closedBySlot, InTime, Promise}
 use Rattle.machine.specs.Cases.{task, tableOf, session, example}
@@ -39,7 +39,7 @@ unfolding computing coreAt machineAfter answers refusalBefore refusals sameNumbe
 core-examples-hold = refl
 
 pub need-examples-hold : allTrue needExamples ≡ true
-unfolding computing machineAfter answers refusalBefore refusals sameNumbers runIs ignoredIs atPlace0 emptyRefusals saysRan saysFinished upToSlot ranWhole acceptedFinish isFinishOf anyFinish closedBySlot soonAndLong twice jobAfter opensWith heldBack heldBackCalls needExamples allTrue
+unfolding computing machineAfter answers refusalBefore refusals sameNumbers runIs ignoredIs atPlace0 emptyRefusals saysRan saysFinished upToSlot ranWhole acceptedFinish isFinishOf anyFinish closedBySlot soonAndLong twice jobAfter opensWith heldBack heldBackCalls wholeJob wholeRelease needExamples allTrue
 need-examples-hold = refl
 
 pub claims-hold : allTrue claims ≡ true

@@ -1,5 +1,5 @@
--- The release as it was before document 02's change 5, for the theorem `whole-as-before` alone, and as it was before change 3, with soundness as it was, for the
--- theorem `release-as-before` alone (crates/machine/proofs/ReleaseAsBefore.antt).
+-- The release as it was before document 02's change 5, for the theorem `whole-as-before`, and as it was before change 3, with soundness as it was, for the
+-- theorem `release-as-before` (crates/machine/proofs/ReleaseAsBefore.antt). Beside these theorems only an example of each cites them.
 use Prim.Native.Nat.{ℕ, zero, suc, _-_}
 use mathlib.Core.Bool.{Bool, true, cond, not, _&&_}
 use lib.Dec.{ltb}

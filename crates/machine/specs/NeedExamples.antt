@@ -10,6 +10,7 @@ use Rattle.job.specs.declared.job.Job.{Job}
 use Rattle.job.specs.Job.{isUrgent}
 use Rattle.machine.specs.Machine.{jobAt}
 use Rattle.machine.specs.Calls.{start}
+use Rattle.machine.specs.FormerRelease.{wholeRelease}
 use Rattle.machine.specs.Play.{machineAfter}
 use Rattle.machine.specs.InTime.{closedBySlot}
 use Rattle.machine.specs.Cases.{verdictIs, task, tableOf, holds, line}
@@ -62,8 +63,9 @@ needExamples =
     ignoredIs twice 1 (Release 1 2 ∷ Slot 1 ∷ []) (Release 2 4) 15 (Release 2 1 ∷ Slot 1 ∷ Slot 1 ∷ []) (line 1 0 0 ∷ line 1 1 0 ∷ line 2 2 0 ∷ []) ∷
     ignoredIs twice 1 (Release 1 2 ∷ Slot 1 ∷ []) (Release 1 4) 15 (Slot 1 ∷ []) (line 1 0 0 ∷ line 1 1 0 ∷ []) ∷
     emptyRefusals (answers twice 1 (Release 2 0 ∷ Release 2 4 ∷ [])) ∷
-    -- the whole budget is a need like any other, and so is 1: left is D and gap is T with each
+    -- the whole budget is a need like any other, and so is 1: left is D and gap is T with each; with the whole budget the job is what the former release made it
     opensWith (jobAfter twice (Release 1 3 ∷ []) 0) 5 3 6 ∷
+    opensWith (jobAt (wholeRelease (start (tableOf twice) 1 .machine) 1 .machine) 0) 5 3 6 ∷
     opensWith (jobAfter twice (Release 1 2 ∷ []) 0) 5 2 6 ∷
     opensWith (jobAfter twice (Release 1 1 ∷ []) 0) 5 1 6 ∷
     opensWith (jobAfter (task 1_000_000 1_000_000 1_000_000 ∷ []) (Release 1 999_999 ∷ []) 0) 1_000_000 999_999 1_000_000 ∷
