@@ -1,4 +1,4 @@
-// Lines of calls and of their answers, for replay and probe, and lines of numbers.
+// Lines of calls, of their answers and of numbers, for replay and probe.
 pub mod calls;
 pub mod numbers;
 pub mod output;
