@@ -1,4 +1,4 @@
--- Sound jobs as they were before document 02's change 3, for the theorem `release-as-before` alone (crates/machine/proofs/ReleaseAsBefore.antt).
+-- Sound jobs as they were before document 02's change 3, for the theorem `release-as-before` (crates/machine/proofs/ReleaseAsBefore.antt).
 use mathlib.Core.Bool.{Bool, cond, _&&_}
 use lib.Dec.{leb}
 use Rattle.tasks.specs.declared.task.Task.{Task}

@@ -20,7 +20,7 @@ use Rattle.machine.specs.FormerRelease.{wholeJob, wholeRelease, formerJo
 use Rattle.machine.specs.Play.{Entry, play, machineAfter}
 use Rattle.machine.specs.InTime.{isFinishOf, acceptedFinish, saysRan, saysFinished, slotCount, upToSlot, ranWhole, anyFinish, tableAfter, joinedBy, closedBySlot, InTime, Promise}
 use Rattle.machine.specs.Cases.{task, tableOf, session, example}
-use Rattle.machine.specs.Examples.{answers, refusalBefore, refusals, runnerCounts, runIs, ignoredIs, many, manyIs, pressed, pressedCalls, ignoredSlot, atPlace0, emptyRefusals, withoutTasks, madeByHand, allKinds, whole, overtaken, ignored, examples, slotOf, idle, ran, ranLast, accepted, refused, closedIn, claims}
+use Rattle.machine.specs.Examples.{answers, refusalBefore, refusals, runnerCounts, runIs, ignoredIs, many, pressed, pressedCalls, ignoredSlot, atPlace0, emptyRefusals, withoutTasks, madeByHand, allKinds, whole, overtaken, ignored, examples, slotOf, idle, ran, ranLast, accepted, refused, closedIn, claims}
 use Rattle.cores.specs.Examples.{sameNumbers, allTrue}
 use Rattle.machine.specs.Machine.{coreAt}
 use Rattle.machine.specs.CoreExamples.{coreLines, sameLists, coresAre, three, everySlot, recording, recordAfter, elseNoCores, coreExamples}
@@ -31,7 +31,7 @@ use Rattle.machine.proofs.Computing.{computing}
 use Rattle.machine.proofs.InTimeHolds.{promise}
 
 pub examples-hold : allTrue examples ≡ true
-unfolding computing answers refusalBefore refusals runnerCounts sameNumbers runIs ignoredIs many manyIs pressed pressedCalls ignoredSlot atPlace0 emptyRefusals withoutTasks madeByHand allKinds whole overtaken ignored wholeJob formerJobSound formerJobsSound formerSound formerRelease examples allTrue
+unfolding computing answers refusalBefore refusals runnerCounts sameNumbers runIs ignoredIs many pressed pressedCalls ignoredSlot atPlace0 emptyRefusals withoutTasks madeByHand allKinds whole overtaken ignored wholeJob formerJobSound formerJobsSound formerSound formerRelease examples allTrue
 examples-hold = refl
 
 pub core-examples-hold : allTrue coreExamples ≡ true

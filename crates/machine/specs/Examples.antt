@@ -1,5 +1,5 @@
 -- Examples beside the cases of document 01, as entries of lists of computed tests; above 150 lines because it is these lists alone, with the words
--- that they are written in. `examples` has runs of the machine: 32 tasks on 16 cores, joins, a task that turns urgent, refused calls, slots with
+-- that they are written in. `examples` has runs of the machine: joins, a task that turns urgent, refused calls, slots with
 -- other cores than the machine's (document 02, change 1), jobs of equal deadlines (change 2), and machines made by hand (change 3). `claims` has logs
 -- made by hand, and what the claim of demand 3 says of them. `allTrue` of crate cores is the test; the theorems
 -- stand in proofs/ExamplesHold.antt.
@@ -62,11 +62,6 @@ ignoredIs tasks cores before call number after lines =
 -- 32 tasks: the last 12 have the earlier deadline
 unfoldable pub many : List Task
 many = replicate 20 (task 40 2 20) ++ replicate 12 (task 40 3 7)
-
--- all of them released on 16 cores, six slots report these lines and these numbers of runners
-unfoldable pub manyIs : List Line → (counts : List ℕ) → Bool
-manyIs lines counts =
-    let log = answers many 16 (allReleased many ++ replicate 6 (Slot 16)) in sameLines (slotLines log) lines && sameNumbers (runnerCounts log) counts
 
 -- a task that must run in both slots to its deadline
 unfoldable pub pressed : List Task
@@ -131,17 +126,6 @@ examples =
     -- 32 tasks on 16 cores: COUNT 12, admitted; on 11 cores the same COUNT, refused
     holds (verdictIs many 16 12 true) ∷
     holds (verdictIs many 11 12 false) ∷
-    -- all 32 released: tasks 21 to 32 run first, beside them in turn 1 to 4, 5 to 8 and 9 to 12; then 13 to 20, which owe most, with 1 to 8; then
-    -- 9 to 20, which owe 1 each; so 16 run while 16 or more are open, then 12, then none
-    manyIs
-    (line 4_293_918_735 0 0 ∷
-    line 4_293_918_960 0 0 ∷
-    line 4_293_922_560 4_293_918_720 0 ∷
-    line 1_044_735 255 0 ∷
-    line 1_048_320 1_048_320 0 ∷
-    line 0 0 0 ∷
-    [])
-    (16 ∷ 16 ∷ 16 ∷ 16 ∷ 12 ∷ 0 ∷ []) ∷
     -- a 33rd task is refused by 12
     runIs many 16 (Join (task 40 1 40) ∷ []) (12 ∷ []) [] ∷
     -- a join that is admitted, between two slots: its task is released and runs
