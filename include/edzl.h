@@ -18,6 +18,10 @@
  *     1 <= BUDGET <= DEADLINE <= PERIOD <= 1000000.
  *
  * The table above is not admitted on 1 core and is admitted on 2 and on 3.
+ *
+ * Admitted means by the slack test, which the handbook explains and of which the
+ * program sharper prints the verdicts. It admits whatever the window test, that
+ * of the program verdict, admits, and further tables.
  */
 #ifndef EDZL_H
 #define EDZL_H

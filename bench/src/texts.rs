@@ -1,6 +1,6 @@
-//! Table texts near the boundary of admission, and refused ones.
+//! Table texts near the boundaries of the window test and the slack test, and refused ones.
 
-use crate::plain::{Task, admitted};
+use crate::plain::{MAX_ROUNDS, Task, judge, slack_test, window_test};
 
 pub struct Case {
     pub text: Vec<u8>,
@@ -8,6 +8,34 @@ pub struct Case {
 }
 
 const NAMES: [&str; 3] = ["PERIOD", "BUDGET", "DEADLINE"];
+
+// Cores and value lines. In the first two tables few enough tasks may turn urgent from round 64 on,
+// in the next two from round 65 on, in the fifth never, in the last two long before.
+const CUT_OFF: [(u32, &str); 7] = [
+    (
+        1,
+        "9478 454 8389,7016 1433 4535,337647 844 8421,59246 6677 15963",
+    ),
+    (
+        2,
+        "5949 1587 5223,127438 716 16903,121859 867 1366,14572 735 3724,\
+         78193 5165 15224,13095 2281 7847,198238 51 158,169463 485 1205",
+    ),
+    (
+        1,
+        "9435 1122 6412,5903 703 5301,3582 359 1825,45860 4169 12472",
+    ),
+    (1, "539 1 1,535 55 283,211465 266 591,241 18 46,226 13 83"),
+    (1, "80260 7719 44514,505 70 173,760 508 736,148888 9 34766"),
+    (
+        2,
+        "157654 10856 111726,395394 110383 213203,859433 369631 838838,154773 44503 105426",
+    ),
+    (
+        3,
+        "326553 239 510,117 36 115,232 41 120,159321 16105 79407,348 89 284,391 56 282",
+    ),
+];
 
 /// A small deterministic source of random numbers (splitmix64).
 struct Random(u64);
@@ -69,16 +97,20 @@ fn frames(random: &mut Random, tasks: usize) -> Vec<Task> {
     (0..tasks).map(frame).collect()
 }
 
-/// Tables of so many tasks: each twice, just admitted on half as many cores and just not.
-pub fn near_boundary(tasks: usize, tables: usize) -> Vec<Case> {
+/// Half as many cores as tasks, rounded up.
+pub fn cores_for(tasks: usize) -> u32 {
+    tasks.div_ceil(2) as u32
+}
+
+// Each table twice: with the share at its boundary, and with the one before.
+fn pairs(tasks: usize, tables: usize, boundary: fn(&[Task], u32) -> Option<u32>) -> Vec<Case> {
     let mut random = Random(tasks as u64);
-    let cores = tasks.div_ceil(2) as u32;
+    let cores = cores_for(tasks);
     let mut cases = Vec::new();
     while cases.len() < 2 * tables {
         let frames = frames(&mut random, tasks);
         let order = column_order(&mut random);
-        let verdict = |share: &u32| admitted(&with_shares(&frames, *share), cores);
-        let Some(share) = (2..=1000).find(|share| verdict(&(share - 1)) && !verdict(share)) else {
+        let Some(share) = boundary(&frames, cores) else {
             continue;
         };
         for share in [share - 1, share] {
@@ -89,9 +121,46 @@ pub fn near_boundary(tasks: usize, tables: usize) -> Vec<Case> {
     cases
 }
 
+// The first share that a test refuses where it admits the one before.
+fn first_refused(frames: &[Task], test: impl Fn(&[Task]) -> bool) -> Option<u32> {
+    let verdict = |share: u32| test(&with_shares(frames, share));
+    (2..=1000).find(|&share| verdict(share - 1) && !verdict(share))
+}
+
+/// Tables of so many tasks: each twice, just admitted by the window test and just not.
+pub fn near_window_boundary(tasks: usize, tables: usize) -> Vec<Case> {
+    pairs(tasks, tables, |frames, cores| {
+        first_refused(frames, |tasks| window_test(tasks, cores))
+    })
+}
+
+/// Tables of so many tasks: each twice, just admitted by the slack test and just not. The window
+/// test admits neither. None exist where the tasks are at most one more than the cores: where the
+/// window test refuses, all may turn urgent, and every slack stays 0.
+pub fn near_slack_boundary(tasks: usize, tables: usize) -> Vec<Case> {
+    if tasks <= cores_for(tasks) as usize + 1 {
+        return Vec::new();
+    }
+    pairs(tasks, tables, |frames, cores| {
+        let share = first_refused(frames, |tasks| slack_test(tasks, cores).admitted)?;
+        let sharper = !window_test(&with_shares(frames, share - 1), cores);
+        sharper.then_some(share)
+    })
+}
+
+/// Tables that the limit on the rounds cuts off: for the comparison only.
+pub fn cut_off() -> Vec<Case> {
+    let case = |(cores, lines): (u32, &str)| {
+        let text = format!("{}\n{}\n", NAMES.join(" "), lines.replace(',', "\n")).into_bytes();
+        assert!(judge(&text, cores).is_ok_and(|verdict| verdict.rounds == MAX_ROUNDS));
+        Case { text, cores }
+    };
+    CUT_OFF.map(case).into()
+}
+
 /// Texts that are refused, and every prefix of a good one: for the comparison only.
 pub fn refused() -> Vec<Case> {
-    let good = near_boundary(32, 1).remove(0).text;
+    let good = near_window_boundary(32, 1).remove(0).text;
     let line = "PERIOD BUDGET DEADLINE\n";
     let mut texts: Vec<Vec<u8>> = (0..=good.len()).map(|len| good[..len].to_vec()).collect();
     for lines in [

@@ -1,12 +1,12 @@
 //! Verdicts per second: the proved entry against plain Rust and plain C.
 
-use crate::texts::{Case, near_boundary, refused};
+use crate::texts::{Case, cores_for, cut_off, near_slack_boundary, near_window_boundary, refused};
 use crate::{plain, timing};
 use std::hint::black_box;
 
-const ROUNDS: usize = 200;
+const REPEATS: usize = 100;
 const TABLES: usize = 256;
-const CALLS: usize = 2_048;
+const CALLS: usize = 1_024;
 
 unsafe extern "C" {
     fn edzl_admit(text: *const u8, len: usize, cores: u32) -> u32;
@@ -29,7 +29,7 @@ fn in_rust(case: &Case) -> u32 {
 }
 
 // The three give the same number on every text.
-fn compare(cases: &[Case]) {
+fn compare(cases: &[&Case]) {
     for case in cases {
         let answers = [proved(case), in_rust(case), in_c(case)];
         let text = String::from_utf8_lossy(&case.text);
@@ -41,42 +41,67 @@ fn compare(cases: &[Case]) {
     }
 }
 
-fn calls(cases: &[Case], admit: fn(&Case) -> u32) {
+fn calls(cases: &[&Case], admit: fn(&Case) -> u32) {
     for case in cases.iter().cycle().take(CALLS) {
         black_box(admit(black_box(case)));
     }
 }
 
-fn line(tasks: usize) {
-    let cases = near_boundary(tasks, TABLES);
-    compare(&cases);
+// Nanoseconds for one call of each: the proved entry, in Rust and in C.
+fn times(cases: &[&Case]) -> [f64; 3] {
     let best = timing::best_of(
-        ROUNDS,
+        REPEATS,
         &mut [
-            &mut || calls(&cases, proved),
-            &mut || calls(&cases, in_rust),
-            &mut || calls(&cases, in_c),
+            &mut || calls(cases, proved),
+            &mut || calls(cases, in_rust),
+            &mut || calls(cases, in_c),
         ],
     );
-    let nanoseconds: Vec<f64> = best.iter().map(|time| time * 1e9 / CALLS as f64).collect();
-    let [proved, rust, c] = nanoseconds[..] else {
-        unreachable!()
+    [best[0], best[1], best[2]].map(|time| time * 1e9 / CALLS as f64)
+}
+
+// How often the sums are added up for a text of the group.
+fn mean_rounds(cases: &[&Case]) -> f64 {
+    let rounds = |case: &&Case| match plain::judge(&case.text, case.cores) {
+        Ok(verdict) => f64::from(verdict.rounds),
+        Err(number) => unreachable!("refusal {number}"),
     };
+    cases.iter().map(rounds).sum::<f64>() / cases.len() as f64
+}
+
+fn line(tasks: usize, group: &str, cases: &[&Case]) {
+    compare(cases);
+    let [proved, rust, c] = times(cases);
     println!(
-        "{tasks:>5} {proved:>9.0} {rust:>9.0} {c:>9.0} {:>12.0} {:>9.2} {:>6.2} {:>9.2}",
+        "{tasks:>5} {:>5} {group:>6} {:>6.2} {proved:>9.0} {rust:>9.0} {c:>9.0} {:>12.0} {:>9.2}",
+        cores_for(tasks),
+        mean_rounds(cases),
         1e9 / proved,
-        rust / proved,
-        c / proved,
         rust.min(c) / proved
     );
 }
 
-/// Compares the three on every text, then prints a line for each size.
+// A line for the texts near each boundary, and one for both together.
+fn lines(tasks: usize) {
+    let window = near_window_boundary(tasks, TABLES);
+    let slack = near_slack_boundary(tasks, TABLES);
+    let [window, slack]: [Vec<&Case>; 2] = [&window, &slack].map(|cases| cases.iter().collect());
+    line(tasks, "window", &window);
+    if slack.is_empty() {
+        println!("{tasks:>5} {:>5}  slack   none", cores_for(tasks));
+        return;
+    }
+    line(tasks, "slack", &slack);
+    line(tasks, "both", &[window, slack].concat());
+}
+
+/// Compares the three on every text, then prints the lines of each size.
 pub fn print() {
-    compare(&refused());
-    println!("Verdicts: nanoseconds for one call, best of {ROUNDS}; speed against the others");
-    println!("tasks    proved   in Rust      in C   verdicts/s   to Rust   to C to better");
+    let others: Vec<Case> = refused().into_iter().chain(cut_off()).collect();
+    compare(&others.iter().collect::<Vec<_>>());
+    println!("Verdicts: nanoseconds for one call, best of {REPEATS}; speed against the better");
+    println!("tasks cores   near rounds    proved   in Rust      in C   verdicts/s to better");
     for tasks in [3, 8, 32] {
-        line(tasks);
+        lines(tasks);
     }
 }

@@ -1,6 +1,6 @@
 /*
- * A host in C: calls the entry on texts of document 01 and compares each
- * answer with a literal.
+ * A host in C: calls the entry on texts of document 01, and on two of change 6 of
+ * document 02, and compares each answer with a literal.
  */
 #include <inttypes.h>
 #include <stdio.h>
@@ -23,6 +23,10 @@ struct check {
 #define CASE_G NAMES "10 9 10\n10 6 10\n5 2 5\n"
 #define CASE_H NAMES "5 5 5\n"
 #define CASE_I NAMES "5 5 5\n5 5 5\n"
+/* Document 002's four tasks, which the window test refuses on 2 cores. */
+#define FOUR_TASKS NAMES "2 1 2\n2 1 2\n7 1 7\n8 3 8\n"
+/* Two reach at the cut after 64 rounds, and would not a round later. */
+#define CUT NAMES "188 1 1\n157 31 94\n188 30 32\n188 32 188\n"
 #define LINES_8 "4 1 4\n4 1 4\n4 1 4\n4 1 4\n4 1 4\n4 1 4\n4 1 4\n4 1 4\n"
 #define LINES_32 NAMES LINES_8 LINES_8 LINES_8 LINES_8
 
@@ -39,6 +43,10 @@ static const struct check checks[] = {
     {"case g on 2 cores", TEXT(CASE_G), 2, 0},
     {"case h on 1 core", TEXT(CASE_H), 1, 1},
     {"case i on 1 core", TEXT(CASE_I), 1, 0},
+    {"document 002's four tasks on 1 core", TEXT(FOUR_TASKS), 1, 0},
+    {"document 002's four tasks on 2 cores", TEXT(FOUR_TASKS), 2, 1},
+    {"a table cut after 64 rounds on 1 core", TEXT(CUT), 1, 0},
+    {"a table cut after 64 rounds on 2 cores", TEXT(CUT), 2, 1},
     {"an empty text", TEXT(""), 1, 102},
     {"an empty text on 0 cores", TEXT(""), 0, 102},
     {"4097 bytes", bytes_4097, 4097, 1, 101},

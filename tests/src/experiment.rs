@@ -27,6 +27,20 @@ pub fn for_each_set(size: usize, visit: &mut dyn FnMut(&[usize])) {
     extend(&mut Vec::new(), size, tasks().len(), visit);
 }
 
+/// The number of pairs of tasks that a multiset can begin with.
+pub const PAIRS: u64 = 78 * 79 / 2;
+
+/// Visits every multiset of so many tasks that begins with this pair, from 0. Neighbours
+/// begin with tasks far apart, so that parts of all pairs have about as many multisets.
+pub fn for_each_set_of_pair(size: usize, pair: u64, visit: &mut dyn FnMut(&[usize])) {
+    let tasks = tasks().len();
+    let mut all = (0..tasks).flat_map(|first| (first..tasks).map(move |second| [first, second]));
+    // The factor is prime and no divisor of the number of pairs: each comes once.
+    let place = usize::try_from(pair * 1_543 % PAIRS).expect("a place of the list");
+    let pair = all.nth(place).expect("a pair");
+    extend(&mut pair.to_vec(), size, tasks, visit);
+}
+
 fn extend(set: &mut Vec<usize>, size: usize, tasks: usize, visit: &mut dyn FnMut(&[usize])) {
     if set.len() == size {
         return visit(set);
@@ -107,9 +121,9 @@ impl Counter {
     }
 }
 
-// The slots of a window in which a task runs that is released at the window's
-// start and then once a period, and runs at once.
-fn busy_slots(task: &Task, window: u32) -> u32 {
+/// The slots of a window in which a task runs that is released at the window's
+/// start and then once a period, and runs at once.
+pub fn busy_slots(task: &Task, window: u32) -> u32 {
     let busy = (0..window).filter(|slot| slot % task.period < task.budget);
     busy.map(|_| 1).sum()
 }

@@ -1,13 +1,16 @@
-//! An independent check of the table reader, the window test and the slot
-//! machine, written from document 01 and changes 1 to 5 of document 02 alone
-//! and compared with the C entry and the programs.
+//! An independent check of the table reader, the window test, the sharper test and
+//! the slot machine, written from document 01 and changes 1 to 6 of document 02
+//! alone and compared with the C entry and the programs.
 
 pub mod assignment;
 pub mod cores;
+pub mod document_000;
 pub mod edges;
 pub mod experiment;
 pub mod faults;
+pub mod found;
 pub mod host;
+pub mod join_events;
 pub mod machine;
 pub mod need_events;
 pub mod needs;
@@ -25,8 +28,13 @@ pub mod scripts;
 pub mod seen;
 pub mod sessions;
 pub mod settings;
+pub mod sharper_lines;
+pub mod slack;
+pub mod slack_counter;
+pub mod slow;
 pub mod tables;
 pub mod tasks;
 pub mod texts;
 pub mod ties;
 pub mod window;
+pub mod wrong;

@@ -1,13 +1,14 @@
 //! The dispatching machine: document 01, "The slot machine", with the refusals
-//! of "Why a call is not carried out", and changes 1 to 5 of document 02: each slot
+//! of "Why a call is not carried out", and changes 1 to 6 of document 02: each slot
 //! names its cores, of equal deadlines the longer job goes first, an open task whose
-//! gap is below its left makes a machine unsound, each runner has its own core, and
-//! each release names its job's need, e.
+//! gap is below its left makes a machine unsound, each runner has its own core, each
+//! release names its job's need, e, and joins go by the sharper test.
 
 use std::cmp::Reverse;
 
+use crate::slack;
 use crate::tasks::{MOST_CORES, MOST_TASKS, Refusal, Task};
-use crate::window::judge;
+use crate::window::check;
 
 /// What the machine holds for one task besides its three numbers.
 #[derive(Clone, Copy, Debug, Default, PartialEq, Eq)]
@@ -74,7 +75,7 @@ impl Job {
 impl Machine {
     /// A fresh machine, on admitted and on refused tables. Refusals: those of judging.
     pub fn start(table: &[Task], cores: u32) -> Result<Machine, Refusal> {
-        judge(table, cores)?;
+        check(table, cores)?;
         Ok(Machine {
             table: table.to_vec(),
             cores,
@@ -136,7 +137,7 @@ impl Machine {
         Ok(self.close_jobs(&picked))
     }
 
-    /// Join of a task at the end of the table. Refusals: 0, 5, 12, 13.
+    /// Join of a task at the end of the table, by the sharper test. Refusals: 0, 5, 12, 13.
     pub fn join(&mut self, task: Task) -> Result<(), Refusal> {
         self.check_soundness()?;
         if !task.fits() {
@@ -148,7 +149,7 @@ impl Machine {
         let mut longer = self.table.clone();
         longer.push(task);
         // A verdict that is a refusal ends the join with that refusal.
-        if !judge(&longer, self.cores)?.admitted {
+        if !slack::judge(&longer, self.cores)?.admitted {
             return Err(Refusal::whole(13));
         }
         self.table = longer;

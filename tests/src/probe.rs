@@ -1,5 +1,5 @@
 //! Machines made by hand, sound or not, as the program `probe` takes them, and what
-//! it prints for one call on such a machine: document 01 with changes 1 to 5 of
+//! it prints for one call on such a machine: document 01 with changes 1 to 6 of
 //! document 02. All 32 entries are there, those past the count too.
 
 use std::fmt;

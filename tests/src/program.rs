@@ -15,6 +15,11 @@ pub fn verdict_output(text: &[u8]) -> Vec<u8> {
     output("VERDICT", "verdict", text)
 }
 
+/// Everything that the program of the sharper test prints for a text.
+pub fn sharper_output(text: &[u8]) -> Vec<u8> {
+    output("SHARPER", "sharper", text)
+}
+
 /// Everything that the program that prints a whole reading prints for a text.
 pub fn reading_output(text: &[u8]) -> Vec<u8> {
     output("READING", "test_reading", text)

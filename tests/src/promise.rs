@@ -1,13 +1,14 @@
 //! Demand 3 (document 01, "Demand 3 is a single claim about the whole list of
-//! calls", with changes 1 and 5 of document 02), read from a script and its printed
-//! answers alone: on an admitted table, whatever k each slot and whatever e each
-//! release names, no slot reports a late job, and each released job is closed in
-//! time, by having run e slots or by a finish. A refused slot is no slot in anybody's D.
+//! calls", with changes 1, 5 and 6 of document 02), read from a script and its printed
+//! answers alone: on a table that the sharper test admits, whatever k each slot and
+//! whatever e each release names, no slot reports a late job, and each released job is
+//! closed in time, by having run e slots or by a finish. A refused slot is no slot in
+//! anybody's D.
 
 use crate::reading::read;
 use crate::script::{Call, Script};
+use crate::slack::admits;
 use crate::tasks::Task;
-use crate::window::judge;
 
 /// How many released jobs were closed by running and by a finish, and how many
 /// were still open when the calls ended before the deadline. Of those closed by
@@ -46,8 +47,7 @@ struct Printed {
 
 /// Whether the demand speaks of this script: its start table is admitted.
 pub fn applies(script: &Script) -> bool {
-    let verdict = read(&script.table).and_then(|table| judge(&table, script.cores));
-    verdict.is_ok_and(|verdict| verdict.admitted)
+    read(&script.table).is_ok_and(|table| admits(&table, script.cores))
 }
 
 /// The demand on a script with an admitted start table and what was printed.

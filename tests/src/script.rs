@@ -1,6 +1,6 @@
 //! Scripts for the program that replays calls: the number of cores, a table as
 //! text and a list of calls, with the answers that document 01 expects, and
-//! changes 1 to 5 of document 02.
+//! changes 1 to 6 of document 02.
 
 use std::fmt;
 

@@ -6,13 +6,19 @@ use crate::needs::{self, NEEDS, Needs};
 use crate::random::Random;
 use crate::reading::{LINE_END, MOST_BYTES, read};
 use crate::script::{Call, MOST_SCRIPT_BYTES, Script, carry_out};
-use crate::tables;
+use crate::slack;
+use crate::slow;
+use crate::tables::{self, Admits};
 use crate::tasks::{LONGEST_PERIOD, MOST_CORES, MOST_TASKS, Task};
 use crate::texts::{self, ORDERS};
-use crate::window::judge;
+use crate::window;
+use crate::wrong;
 
 /// The most calls of one script.
 pub const MOST_CALLS: usize = 1_000;
+
+// How many tasks are tried to fill a table.
+const FILLING: usize = 100;
 
 // How often each kind of call comes, out of 64; the rest are slots. A call for
 // which there is no task, such as a release when none is due, becomes a slot.
@@ -30,6 +36,10 @@ const BUSY: Rates = rates(32, 1, 0, 1);
 const SPARSE: Rates = rates(8, 3, 1, 4);
 const WILD: Rates = rates(16, 10, 6, 16);
 const JOINING: Rates = rates(16, 2, 24, 4);
+const COMPLETED: Rates = rates(40, 1, 4, 2);
+
+// Tables are filled up to the edge of the sharper test most of the time.
+const TESTS: [Admits; 3] = [slack::admits, slack::admits, window::admits];
 
 // How often a slot names more cores than m, and how often a number that is
 // refused, out of 64; the rest name m.
@@ -100,7 +110,9 @@ pub fn script(seed: u64, index: u64) -> Script {
         2 => ended_by_a_bad_line(&mut random),
         3..=5 => growing(&mut random),
         6..=10 => overloaded(&mut random),
-        11..=23 => packed(&mut random),
+        11..=19 => packed(&mut random),
+        20 => finest(&mut random),
+        21..=23 => completed(&mut random),
         24..=26 => tied(&mut random),
         _ => near_edge(&mut random),
     };
@@ -175,6 +187,36 @@ fn packed(random: &mut Random) -> Script {
     on_table(random, cores, &table, rates)
 }
 
+// A table that the sharper test would refuse with its quotient rounded up: the slacks
+// count to the last slot.
+fn finest(random: &mut Random) -> Script {
+    let cores = random.pick(&[2, 2, 2, 3, 4]);
+    let tasks = random.between(cores + 2, cores + 3);
+    let rounded_up = wrong::named(wrong::ROUNDED_UP);
+    for _ in 0..400 {
+        let table: Vec<Task> = (0..tasks).map(|_| short(random)).collect();
+        if slack::admits(&table, cores) && !rounded_up.judge(&table, cores).1 {
+            let rates = random.pick(&[PERIODIC, BUSY]);
+            return on_table(random, cores, &table, rates);
+        }
+    }
+    packed(random)
+}
+
+// A table as above, or one that a cut after 64 rounds decides, without its last tasks,
+// which join in between: most of them are tasks that only the sharper test admits.
+fn completed(random: &mut Random) -> Script {
+    let mut cores = random.pick(&[1, 1, 2, 2, 3, 4]);
+    let mut table = filled(random, cores, short);
+    if random.one_in(6) {
+        (cores, table) = (1, slow::near_cut(random));
+    }
+    let most = table.len().min(4);
+    let joining = table.split_off(table.len() - random.below(most));
+    let text = texts::write(&table, random.pick(&ORDERS));
+    with_joins(random, cores, text, COMPLETED, joining)
+}
+
 // Tasks that share a period and a deadline and differ in their budgets: jobs that
 // are released together stay equal in left. With a core fewer some are late.
 fn tied(random: &mut Random) -> Script {
@@ -190,26 +232,28 @@ fn tied(random: &mut Random) -> Script {
     on_table(random, cores - fewer, &table, rates)
 }
 
-// A table that is admitted and hardly takes another such task.
+// A table that a test admits and that hardly takes another such task.
 fn filled(random: &mut Random, cores: u32, task: impl Fn(&mut Random) -> Task) -> Vec<Task> {
+    let admits = random.pick(&TESTS);
     let mut table = vec![task(random)];
-    for _ in 0..100 {
+    for _ in 0..FILLING {
         table.push(task(random));
-        if !judge(&table, cores).is_ok_and(|verdict| verdict.admitted) {
+        if !admits(&table, cores) {
             table.pop();
         }
     }
     table
 }
 
-// Both sides of the m from which on the table is admitted, or any m.
+// Both sides of the m from which on a test admits the table, or any m.
 fn near_edge(random: &mut Random) -> Script {
     let table = if random.one_in(4) {
         tables::valid(random)
     } else {
         short_periods(random)
     };
-    let refused = |cores: &u32| judge(&table, *cores).is_ok_and(|verdict| !verdict.admitted);
+    let admits = random.pick(&TESTS);
+    let refused = |cores: &u32| !admits(&table, *cores);
     let last_refused = (1..=MOST_CORES).rfind(refused).unwrap_or(0);
     let cores = match random.below(8) {
         0 => random.between(1, MOST_CORES),
@@ -275,9 +319,20 @@ fn on_table(random: &mut Random, cores: u32, table: &[Task], rates: Rates) -> Sc
     with_calls(random, cores, text, rates)
 }
 
-// The calls are chosen with a machine at hand, so that many are accepted.
-// Where the start is refused, any table serves to choose calls.
 fn with_calls(random: &mut Random, cores: u32, table: Vec<u8>, rates: Rates) -> Script {
+    with_joins(random, cores, table, rates, Vec::new())
+}
+
+// The calls are chosen with a machine at hand, so that many are accepted. The first
+// joins are of the given tasks, from the last to the first.
+// Where the start is refused, any table serves to choose calls.
+fn with_joins(
+    random: &mut Random,
+    cores: u32,
+    table: Vec<u8>,
+    rates: Rates,
+    mut joins: Vec<Task>,
+) -> Script {
     let tasks = read(&table).unwrap_or_else(|_| vec![light(random)]);
     let chosen = cores.clamp(1, MOST_CORES);
     let mut machine = Machine::start(&tasks, chosen).expect("a table on 1 to 16 cores");
@@ -285,7 +340,7 @@ fn with_calls(random: &mut Random, cores: u32, table: Vec<u8>, rates: Rates) -> 
     let needs = random.pick(&NEEDS);
     let mut calls = Vec::new();
     for _ in 0..length(random) {
-        let call = next(random, &machine, rates, needs);
+        let call = next(random, &machine, rates, needs, &mut joins);
         let call = call.unwrap_or_else(|| Call::Slot(cores_of_slot(random, chosen, core_rates)));
         carry_out(&mut machine, call);
         calls.push(call);
@@ -307,7 +362,13 @@ fn length(random: &mut Random) -> usize {
 }
 
 // Any call but a slot, or none for a slot.
-fn next(random: &mut Random, machine: &Machine, rates: Rates, needs: Needs) -> Option<Call> {
+fn next(
+    random: &mut Random,
+    machine: &Machine,
+    rates: Rates,
+    needs: Needs,
+    joins: &mut Vec<Task>,
+) -> Option<Call> {
     let release = rates.release;
     let finish = release + rates.finish;
     let join = finish + rates.join;
@@ -315,7 +376,11 @@ fn next(random: &mut Random, machine: &Machine, rates: Rates, needs: Needs) -> O
     match random.below(64) {
         roll if roll < release => release_due(random, machine, needs),
         roll if roll < finish => finish_open(random, machine),
-        roll if roll < join => Some(Call::Join(joining(random, &machine.table))),
+        roll if roll < join => {
+            let first = joins.pop();
+            let task = first.unwrap_or_else(|| near_edge_of_joins(random, machine));
+            Some(Call::Join(task))
+        }
         roll if roll < odd => odd_call(random, machine),
         _ => None,
     }
@@ -376,6 +441,24 @@ fn some_task(random: &mut Random, machine: &Machine, so: fn(&Job) -> bool) -> Op
     let numbers = (1..).zip(&machine.jobs);
     let found: Vec<u32> = numbers.filter(|(_, job)| so(job)).map(|(i, _)| i).collect();
     (!found.is_empty()).then(|| random.pick(&found))
+}
+
+// Half of the time a task that only the sharper test admits, if a few tries find one.
+fn near_edge_of_joins(random: &mut Random, machine: &Machine) -> Task {
+    let any = joining(random, &machine.table);
+    if random.one_in(2) || machine.table.len() == MOST_TASKS {
+        return any;
+    }
+    let mut longer = machine.table.clone();
+    longer.push(any);
+    for _ in 0..4 {
+        let task = short(random);
+        longer[machine.table.len()] = task;
+        if !window::admits(&longer, machine.cores) && slack::admits(&longer, machine.cores) {
+            return task;
+        }
+    }
+    any
 }
 
 /// A task that may be admitted: light, as one of the table, or any.

@@ -10,8 +10,8 @@ use crate::faults::{Fault, faults};
 use crate::machine::{Job, Slot};
 use crate::probe::{Entry, HandMade, Probe};
 use crate::script::{Answer, Call};
+use crate::slack::admits;
 use crate::tasks::{MOST_TASKS, Task};
-use crate::window::judge;
 
 pub const FINISH: &str = "FINISH";
 pub const JOIN: &str = "JOIN";
@@ -575,7 +575,7 @@ impl Seen {
 
     fn is_admitted(&self) -> bool {
         let table: Vec<Task> = self.table().iter().map(|entry| entry.task).collect();
-        judge(&table, self.before.cores).is_ok_and(|verdict| verdict.admitted)
+        admits(&table, self.before.cores)
     }
 
     fn past(&self, so: fn(&Entry) -> bool) -> bool {

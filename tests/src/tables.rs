@@ -1,21 +1,38 @@
-//! Random valid tables, most of them near the edge of admission (document 01,
-//! "The window test").
+//! Random valid tables, most of them near the edge of admission: of the window test
+//! (document 01) or of the sharper one (document 02, change 6).
 
 use crate::random::Random;
+use crate::slow;
 use crate::tasks::{LONGEST_PERIOD, MOST_CORES, MOST_TASKS, Task};
-use crate::window::judge;
+use crate::{slack, window};
 
 // Steps of the way between two tables. No budget spans more slots than this,
 // so one step moves each budget by one at most.
 const STEPS: u64 = LONGEST_PERIOD as u64;
 
+/// Whether a test admits a table on so many cores.
+pub type Admits = fn(&[Task], u32) -> bool;
+
 /// A valid table of 1 to 32 tasks.
 pub fn valid(random: &mut Random) -> Vec<Task> {
-    match random.below(8) {
-        0 => level(random),
-        1 | 2 => scattered(random),
-        _ => near_edge(random),
+    match random.below(16) {
+        0 | 1 => level(random),
+        2 | 3 => scattered(random),
+        4..=6 => near_sharper_edge(random),
+        7 => slow::table(random),
+        _ => {
+            let table = scattered(random);
+            near_edge(random, table, window::admits)
+        }
     }
+}
+
+/// A table, most of them of a few tasks, one slot of one budget away from the other sharper verdict.
+pub fn near_sharper_edge(random: &mut Random) -> Vec<Task> {
+    let most = random.pick(&[5, 5, 5, 5, 7, 7, 10, MOST_TASKS]);
+    let tasks = 3 + random.below(most - 2);
+    let table = of_tasks(random, tasks);
+    near_edge(random, table, slack::admits)
 }
 
 /// A valid table of just so many tasks.
@@ -63,8 +80,7 @@ fn level(random: &mut Random) -> Vec<Task> {
 
 // A table one slot of one budget away from the other verdict on some m. As many
 // cores as tasks always admit, so m stays below.
-fn near_edge(random: &mut Random) -> Vec<Task> {
-    let table = scattered(random);
+fn near_edge(random: &mut Random, table: Vec<Task>, admitted: Admits) -> Vec<Task> {
     let fewer = u32::try_from(table.len() - 1).expect("at most 32 tasks");
     let cores = random.between(1, fewer.clamp(1, MOST_CORES));
     let (lighter, heavier) = if admitted(&table, cores) {
@@ -75,15 +91,15 @@ fn near_edge(random: &mut Random) -> Vec<Task> {
     if admitted(&lighter, cores) == admitted(&heavier, cores) {
         return table;
     }
-    let step = last_admitted_step(&lighter, &heavier, cores);
+    let step = last_admitted_step(&lighter, &heavier, cores, admitted);
     let lighter_side = part_way(&lighter, &heavier, step);
     let heavier_side = part_way(&lighter, &heavier, step + 1);
-    let (before, after) = flip(lighter_side, &heavier_side, cores);
+    let (before, after) = flip(lighter_side, &heavier_side, cores, admitted);
     if random.one_in(2) { before } else { after }
 }
 
 // Halves the way between an admitted and a refused table down to one step.
-fn last_admitted_step(lighter: &[Task], heavier: &[Task], cores: u32) -> u64 {
+fn last_admitted_step(lighter: &[Task], heavier: &[Task], cores: u32, admitted: Admits) -> u64 {
     let (mut low, mut high) = (0, STEPS);
     while high - low > 1 {
         let middle = low + (high - low) / 2;
@@ -98,7 +114,12 @@ fn last_admitted_step(lighter: &[Task], heavier: &[Task], cores: u32) -> u64 {
 
 // Moves one budget after the other by one slot until the verdict flips: the
 // tables just before and just after.
-fn flip(mut table: Vec<Task>, goal: &[Task], cores: u32) -> (Vec<Task>, Vec<Task>) {
+fn flip(
+    mut table: Vec<Task>,
+    goal: &[Task],
+    cores: u32,
+    admitted: Admits,
+) -> (Vec<Task>, Vec<Task>) {
     let mut before = table.clone();
     for k in 0..table.len() {
         before.clone_from(&table);
@@ -126,8 +147,4 @@ fn with_budgets(table: &[Task], budget: fn(&Task) -> u32) -> Vec<Task> {
         task.budget = budget(task);
     }
     table
-}
-
-fn admitted(table: &[Task], cores: u32) -> bool {
-    judge(table, cores).is_ok_and(|verdict| verdict.admitted)
 }

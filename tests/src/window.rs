@@ -10,8 +10,16 @@ pub struct Verdict {
     pub admitted: bool,
 }
 
-/// The verdict on a given table. Refusals: 3, 6, then 5 task by task, then 7.
+/// The verdict on a given table.
 pub fn judge(table: &[Task], cores: u32) -> Result<Verdict, Refusal> {
+    check(table, cores)?;
+    let count = count(table, cores);
+    let admitted = count <= cores;
+    Ok(Verdict { count, admitted })
+}
+
+/// The refusals of judging: 3, 6, then 5 task by task, then 7.
+pub fn check(table: &[Task], cores: u32) -> Result<(), Refusal> {
     if table.len() > MOST_TASKS {
         return Err(Refusal::at(3, MOST_TASKS + 1));
     }
@@ -24,9 +32,12 @@ pub fn judge(table: &[Task], cores: u32) -> Result<Verdict, Refusal> {
     if !(1..=MOST_CORES).contains(&cores) {
         return Err(Refusal::whole(7));
     }
-    let count = count(table, cores);
-    let admitted = count <= cores;
-    Ok(Verdict { count, admitted })
+    Ok(())
+}
+
+/// Whether a table is admitted. A refused one is not.
+pub fn admits(table: &[Task], cores: u32) -> bool {
+    judge(table, cores).is_ok_and(|verdict| verdict.admitted)
 }
 
 /// COUNT: the number of tasks that may turn urgent.

@@ -6,12 +6,16 @@ use std::io::{Write, stdout};
 
 use edzl_tests::random::Random;
 use edzl_tests::settings::{SEED, number};
+use edzl_tests::tables::Admits;
 use edzl_tests::tasks::{MOST_CORES, Task};
-use edzl_tests::window::judge;
-use edzl_tests::{host, oracle, program, reading, texts};
+use edzl_tests::{host, oracle, program, reading, slack, texts, window};
 
 const TEXTS: u64 = 120_000;
 const PROGRAM_TEXTS: u64 = 8_000;
+
+// The outcome of a table that the sharper test admits and the window test does not; the
+// entry answers 1.
+const SHARPER_ALONE: u32 = 2;
 
 // How many texts and how many calls had each outcome.
 #[derive(Default)]
@@ -42,8 +46,8 @@ impl Tally {
     }
 
     // A comparison that never met an outcome says nothing about it.
-    fn require(&self, refusals: u32) {
-        for outcome in [0, 1].into_iter().chain(101..=100 + refusals) {
+    fn require(&self, verdicts: &[u32], refusals: u32) {
+        for outcome in verdicts.iter().copied().chain(101..=100 + refusals) {
             assert!(
                 self.calls.contains_key(&outcome),
                 "no text had outcome {outcome}"
@@ -53,10 +57,11 @@ impl Tally {
 }
 
 // m below, at and above the limits, few and many, and both sides of the m from
-// which on the table is admitted.
+// which on one of the tests admits the table.
 fn cores_to_try(table: &[Task], random: &mut Random) -> Vec<u32> {
     let tasks = u32::try_from(table.len()).expect("at most 32 tasks");
-    let refused = |cores: &u32| judge(table, *cores).is_ok_and(|verdict| !verdict.admitted);
+    let admits: Admits = random.pick(&[window::admits, slack::admits]);
+    let refused = |cores: &u32| tasks > 0 && !admits(table, *cores);
     let last_refused = (1..=MOST_CORES).rfind(refused).unwrap_or(0);
     let middle = random.between(3, 15);
     let any = random.between(18, u32::MAX);
@@ -86,7 +91,10 @@ fn compare_entry(seed: u64, index: u64) -> Vec<u32> {
             "seed {seed}, text {index}, m {cores}: oracle {expected}, edzl_admit {actual}: \"{}\"",
             text.escape_ascii()
         );
-        expected
+        match expected == 1 && !window::admits(&table, *cores) {
+            true => SHARPER_ALONE,
+            false => expected,
+        }
     };
     cores.iter().map(answer).collect()
 }
@@ -128,7 +136,7 @@ fn generated_texts_through_the_c_entry() {
         tally.record(&compare_entry(seed, index));
     }
     tally.report(&format!("edzl_admit compared on {texts} texts"), seed);
-    tally.require(7);
+    tally.require(&[0, 1, SHARPER_ALONE], 7);
 }
 
 // A sample spread over the same texts. The programs get no m, so no number 7.
@@ -144,5 +152,5 @@ fn generated_texts_through_the_programs() {
         &format!("verdict and test_reading compared on {PROGRAM_TEXTS} texts"),
         seed,
     );
-    tally.require(6);
+    tally.require(&[0, 1], 6);
 }

@@ -26,13 +26,18 @@ fn check_refused(text: &[u8], number: u32, place: usize) {
     }
     let printed = format!("REFUSED {number}\n");
     assert_eq!(program::verdict_output(text), printed.as_bytes(), "verdict");
+    assert_eq!(program::sharper_output(text), printed.as_bytes(), "sharper");
     check_whole(text);
 }
 
 // The whole reading, with the place of a refusal and every entry of the table.
 fn check_whole(text: &[u8]) {
     let printed = oracle::reading_output(text);
-    assert_eq!(program::reading_output(text), printed.as_bytes(), "test_reading");
+    assert_eq!(
+        program::reading_output(text),
+        printed.as_bytes(),
+        "test_reading"
+    );
 }
 
 // A text that is read as this table, and what m = 1 gets for it.
@@ -43,6 +48,9 @@ fn check_read(text: &[u8], table: &[Task], on_one_core: u32) {
     let printed = oracle::verdict_output(text);
     assert!(printed.starts_with("CORES COUNT ADMIT\n"));
     assert_eq!(program::verdict_output(text), printed.as_bytes(), "verdict");
+    let printed = oracle::sharper_output(text);
+    assert!(printed.starts_with("CORES ROUNDS ADMIT\n"));
+    assert_eq!(program::sharper_output(text), printed.as_bytes(), "sharper");
     check_whole(text);
 }
 

@@ -16,6 +16,11 @@ fn check_table(name: &str, printed: &str) {
     assert_eq!(String::from_utf8_lossy(&output), printed, "{name}");
 }
 
+fn check_sharper(name: &str, printed: &str) {
+    let output = program::sharper_output(&example(name));
+    assert_eq!(String::from_utf8_lossy(&output), printed, "{name}");
+}
+
 fn check_script(name: &str, printed: &str) {
     let output = program::replay_output(&example(name));
     assert_eq!(String::from_utf8_lossy(&output), printed, "{name}");
@@ -35,6 +40,34 @@ fn tables() {
     );
     check_table("one_task.table", "CORES COUNT ADMIT\n1 1 1\n");
     check_table("leading_zero.table", "REFUSED 4\n");
+    check_table(
+        "four_tasks.table",
+        "CORES COUNT ADMIT\n1 4 0\n2 3 0\n3 2 1\n4 0 1\n",
+    );
+    check_table(
+        "rounds.table",
+        "CORES COUNT ADMIT\n1 3 0\n2 2 1\n3 1 1\n4 1 1\n",
+    );
+}
+
+// The same tables by the sharper test, which admits the four tasks on 2 cores too.
+#[test]
+fn tables_by_the_sharper_test() {
+    check_sharper("example.table", "CORES ROUNDS ADMIT\n1 1 0\n2 2 1\n3 2 1\n");
+    check_sharper(
+        "three_tasks.table",
+        "CORES ROUNDS ADMIT\n1 1 0\n2 1 0\n3 2 1\n",
+    );
+    check_sharper("one_task.table", "CORES ROUNDS ADMIT\n1 1 1\n");
+    check_sharper("leading_zero.table", "REFUSED 4\n");
+    check_sharper(
+        "four_tasks.table",
+        "CORES ROUNDS ADMIT\n1 1 0\n2 3 1\n3 3 1\n4 2 1\n",
+    );
+    check_sharper(
+        "rounds.table",
+        "CORES ROUNDS ADMIT\n1 64 0\n2 3 1\n3 3 1\n4 3 1\n",
+    );
 }
 
 #[test]
@@ -46,6 +79,10 @@ fn scripts() {
     check_script(
         "case_j.replay",
         "DONE\nDONE\nDONE\n3 0 0 2 1 2\n5 1 0 2 1 2\n6 2 0 2 1 2\n4 0 0 1 2\n4 0 0 1 2\n4 4 0 1 2\n",
+    );
+    check_script(
+        "joins.replay",
+        "DONE\nREFUSED 13\nDONE\nDONE\nDONE\nDONE\n3 3 0 2 1 2\n12 4 0 2 1 2\nDONE\nDONE\n3 3 0 2 1 2\n8 0 0 1 1\nDONE\nDONE\n3 3 0 2 1 2\n8 8 0 1 1\nDONE\n",
     );
     check_script(
         "needs.replay",
@@ -75,5 +112,5 @@ fn machines() {
 #[test]
 fn no_example_is_left_out() {
     let path = Path::new(env!("CARGO_MANIFEST_DIR")).join("../examples");
-    assert_eq!(fs::read_dir(path).expect("the folder").count(), 10);
+    assert_eq!(fs::read_dir(path).expect("the folder").count(), 13);
 }

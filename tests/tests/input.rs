@@ -12,11 +12,16 @@ use edzl_tests::program::path;
 
 const TABLE: &[u8] = b"DEADLINE PERIOD BUDGET\n4 4 1\n5 6 2\n8 10 6\n";
 
-// The four programs, and what each prints for an empty text and for one that is too long.
-fn programs() -> [(PathBuf, Vec<u8>, Vec<u8>); 4] {
+// The programs, and what each prints for an empty text and for one that is too long.
+fn programs() -> [(PathBuf, Vec<u8>, Vec<u8>); 5] {
     [
         (
             path("VERDICT", "verdict"),
+            b"REFUSED 2\n".to_vec(),
+            b"REFUSED 1\n".to_vec(),
+        ),
+        (
+            path("SHARPER", "sharper"),
             b"REFUSED 2\n".to_vec(),
             b"REFUSED 1\n".to_vec(),
         ),
@@ -101,6 +106,8 @@ fn pieces_make_one_text() {
     for size in [1, 7, 23] {
         let verdict = in_pieces(&path("VERDICT", "verdict"), TABLE, size);
         assert_eq!(verdict, oracle::verdict_output(TABLE).into_bytes());
+        let sharper = in_pieces(&path("SHARPER", "sharper"), TABLE, size);
+        assert_eq!(sharper, oracle::sharper_output(TABLE).into_bytes());
         let reading = in_pieces(&path("READING", "test_reading"), TABLE, size);
         assert_eq!(reading, oracle::reading_output(TABLE).into_bytes());
     }
@@ -119,6 +126,7 @@ fn pieces_make_one_text() {
 #[test]
 fn a_long_text_in_pieces_is_too_long() {
     let text = vec![b' '; 4_097];
-    let verdict = in_pieces(&path("VERDICT", "verdict"), &text, 512);
-    assert_eq!(verdict, b"REFUSED 1\n");
+    for program in [path("VERDICT", "verdict"), path("SHARPER", "sharper")] {
+        assert_eq!(in_pieces(&program, &text, 512), b"REFUSED 1\n");
+    }
 }

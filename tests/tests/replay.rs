@@ -10,11 +10,13 @@ use std::ops::Range;
 use edzl_tests::cores::Assigned;
 use edzl_tests::machine::Slot;
 use edzl_tests::promise::Kept;
+use edzl_tests::reading::read;
 use edzl_tests::script::{Answer, Call, Script, lines};
 use edzl_tests::tasks::MOST_TASKS;
 use edzl_tests::ties::Ties;
 use edzl_tests::{
-    assignment, cores, need_events, parts, program, promise, scripts, settings, ties,
+    assignment, cores, join_events, need_events, parts, program, promise, scripts, settings, ties,
+    window, wrong,
 };
 
 const SCRIPTS: u64 = 20_000;
@@ -46,10 +48,10 @@ const KINDS: [&str; 21] = [
     "TABLE REFUSED 7",
 ];
 
-// What must happen among them with the events of a slot's cores and of needs, and
-// nothing else may: no late job on an admitted table, no tie there among more urgent tasks than
-// cores, and no accepted join on a refused one.
-const EVENTS: [&str; 34] = [
+// What must happen among them with the events of a slot's cores, of needs and of joins,
+// and nothing else may: no late job on an admitted table, no tie there among more urgent
+// tasks than cores, and no accepted join on a refused one.
+const EVENTS: [&str; 37] = [
     "a core above k, given up",
     "a core kept from the slot before",
     "a finish before the job ran",
@@ -60,6 +62,8 @@ const EVENTS: [&str; 34] = [
     "a job closed in time past a refused slot, table admitted",
     "a job closed in time, too late if refused slots counted, table admitted",
     "a job open at the last call, table admitted",
+    "a job closed by running in time, table admitted by the sharper test alone",
+    "a job closed by running in time, table refused by slacks rounded down",
     "a late job, table refused",
     "a refused slot of k above 16 while a job is open",
     "a refused slot of k below m while a job is open",
@@ -80,6 +84,7 @@ const EVENTS: [&str; 34] = [
     "a slot that ties by the table's C would change, among tasks not urgent, table refused",
     "a slot that ties by the table's C would change, among urgent tasks, table refused",
     "a table admitted",
+    "a table admitted by the sharper test alone",
     "a table grown to 32 tasks",
     "a table not admitted",
     "a task back after a pause, on another core",
@@ -109,8 +114,9 @@ const TIES: [[&str; 2]; 4] = [
 // Scripts for which each of them that can happen must be met once on average.
 const SCRIPTS_FOR_A_TIE: u64 = 10;
 
-// The same for each event of needs.
+// The same for each event of needs, and for each of joins.
 const SCRIPTS_FOR_A_NEED: u64 = 20;
+const SCRIPTS_FOR_A_JOIN: u64 = 20;
 
 // How often each kind and each event was met.
 #[derive(Default)]
@@ -142,6 +148,8 @@ impl Tally {
         let admitted = promise::applies(script);
         let verdict = ["a table not admitted", "a table admitted"];
         self.event(verdict[usize::from(admitted)], 1);
+        let alone = u64::from(admitted && !window_admits(script));
+        self.event("a table admitted by the sharper test alone", alone);
         for (call, answer) in script.calls.iter().zip(answers) {
             self.kind(kind(*call, *answer));
         }
@@ -156,7 +164,12 @@ impl Tally {
         self.joins(script, answers, admitted);
         self.ties(script, admitted);
         let needs = need_events::met(script).into_iter();
-        for name in assignment::met(script).into_iter().chain(needs) {
+        let joins = join_events::met(script, answers).into_iter();
+        for name in assignment::met(script)
+            .into_iter()
+            .chain(needs)
+            .chain(joins)
+        {
             self.event(name, 1);
         }
     }
@@ -239,7 +252,15 @@ impl Tally {
     }
 
     // The released jobs of an admitted table.
-    fn kept(&mut self, kept: Kept) {
+    fn kept(&mut self, script: &Script, kept: Kept) {
+        if !window_admits(script) {
+            let name = "a job closed by running in time, table admitted by the sharper test alone";
+            self.event(name, kept.by_running);
+        }
+        if !rounded_up_admits(script) {
+            let name = "a job closed by running in time, table refused by slacks rounded down";
+            self.event(name, kept.by_running);
+        }
         let names = [
             "a job closed by running in time, table admitted",
             "a job closed by a finish in time, table admitted",
@@ -337,11 +358,12 @@ impl Tally {
         );
         let met: BTreeSet<&str> = self.events.keys().copied().collect();
         let of_slots = assignment::EVENTS.iter().map(|(name, _)| *name);
-        let expected = EVENTS.into_iter().chain(of_slots);
+        let expected = EVENTS.into_iter().chain(of_slots).chain(join_events::NAMES);
         let expected: BTreeSet<&str> = expected.chain(need_events::names()).collect();
         assert_eq!(met, expected, "the events met, and the expected ones");
         self.require_often(TIES.iter().flatten().copied(), scripts / SCRIPTS_FOR_A_TIE);
         self.require_often(need_events::names(), scripts / SCRIPTS_FOR_A_NEED);
+        self.require_often(join_events::NAMES.into_iter(), scripts / SCRIPTS_FOR_A_JOIN);
     }
 
     // Those of these events that were met at all.
@@ -350,6 +372,16 @@ impl Tally {
             assert!(*times >= least, "{times} times, not {least}: {name}");
         }
     }
+}
+
+fn window_admits(script: &Script) -> bool {
+    read(&script.table).is_ok_and(|table| window::admits(&table, script.cores))
+}
+
+// With the quotient rounded up, and so the slacks rounded down.
+fn rounded_up_admits(script: &Script) -> bool {
+    let rounded_up = wrong::named(wrong::ROUNDED_UP);
+    read(&script.table).is_ok_and(|table| rounded_up.judge(&table, script.cores).1)
 }
 
 fn kind(call: Call, answer: Answer) -> String {
@@ -381,7 +413,8 @@ fn compare(script: &Script, tally: &mut Tally) -> Result<(), String> {
     };
     if promise::applies(script) {
         let kept = promise::check(script, &actual);
-        tally.kept(kept.map_err(|fault| failure(&format!("demand 3 is broken: {fault}")))?);
+        let kept = kept.map_err(|fault| failure(&format!("demand 3 is broken: {fault}")))?;
+        tally.kept(script, kept);
     }
     let assigned = cores::check(script, &actual);
     tally.assigned(assigned.map_err(|fault| failure(&format!("cores: {fault}")))?);

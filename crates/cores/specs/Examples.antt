@@ -1,18 +1,12 @@
--- Examples of document 02's change 4, as entries of a list of computed tests: `allTrue` is the test, and the theorem stands in proofs/ExamplesHold.antt.
+-- Examples of document 02's change 4, as entries of a list of computed tests: `allTrue` of crate laws is the test, and the theorem stands in proofs/ExamplesHold.antt.
 use Prim.Native.Nat.{ℕ}
 use mathlib.Core.List.{List, [], _∷_, _++_}
 use mathlib.Core.Bool.{Bool, true, false, not, _&&_}
 use lib.Dec.{eqb}
 use lib.ListN.{length, take, replicate}
+use Rattle.laws.specs.Examples.{sameNumbers}
 use Rattle.cores.specs.Assign.{assignment}
 use Rattle.cores.specs.Record.{coresSound}
-
--- two lists have the same numbers
-unfoldable pub sameNumbers : List ℕ → List ℕ → Bool
-sameNumbers [] [] = true
-sameNumbers [] (y ∷ t) = false
-sameNumbers (x ∷ s) [] = false
-sameNumbers (x ∷ s) (y ∷ t) = eqb x y && sameNumbers s t
 
 -- with these recorded cores and k cores, these runners, by their indexes in precedence, give the first tasks these cores
 unfoldable pub assignmentIs : (recorded : List ℕ) → (k : ℕ) → (runners : List ℕ) → (cores : List ℕ) → Bool
@@ -49,8 +43,3 @@ examples =
     coresSound (0 ∷ 2 ∷ 0 ∷ 1 ∷ 0 ∷ []) ∷
     coresSound [] ∷
     []
-
--- every test of a list holds
-unfoldable pub allTrue : List Bool → Bool
-allTrue [] = true
-allTrue (b ∷ l) = b && allTrue l

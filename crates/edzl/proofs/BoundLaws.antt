@@ -1,5 +1,5 @@
 -- The bound of a job. Others cite: `claim-open` and `claim-closed`, a claim by the task's state; `claim-start`, a claim where all of the window is
--- ahead; `lost-bound` and `urgent-counted`, that a task whose job is urgent is one of those that the window test counts; `bound-moved` and
+-- ahead; `lost-bound` and `urgent-counted`, that a task whose job is urgent is one of those that the test counts; `bound-moved` and
 -- `bound-kept`, where a step keeps the bound; and `claim-same`, `lost-same` and `held-same`, of a task that a step leaves alone.
 use Prim.Native.Nat.{ℕ, _+_, _*_, _-_, _≤_, _<_}
 use mathlib.Core.Path.{_≡_, sym, _∙_}

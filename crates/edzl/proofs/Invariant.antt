@@ -1,12 +1,12 @@
 -- The invariant that keeps every job in time, on the state of the jobs as plain functions of the task's index. Others cite: `Jobs`, `Invariant`
 -- and its parts; `Fresh`, `SameJob`, `RestSame`; `Held`, what it says of one task, with `invariant`, `of-task`, `held-open` and `held-closed`;
--- `fresh-starts`, that a fresh state has it; and `in-time-ahead` and `no-slack-fits`, what a release asks, where there is no slack.
+-- and `fresh-starts`, that a fresh state has it.
 use Prim.Native.Nat.{ℕ, _+_, _*_, _-_, _≤_, _<_, min}
 use mathlib.Core.Path.{_≡_}
 use mathlib.Core.Bool.{Bool, true, false, cond}
 use native.Mathlib.Omega.{arith}
 use Rattle.edzl.specs.TaskSet.{TaskSet}
-use Rattle.edzl.specs.Window.{interference, spare, others, noSlack}
+use Rattle.edzl.specs.Window.{interference, spare, others}
 use Rattle.edzl.specs.Sums.{sumTo}
 use Rattle.laws.proofs.CaseSplits.{not-both}
 use Rattle.edzl.proofs.Potential.{openClaim, closedClaim}
@@ -130,12 +130,3 @@ module _ {tasks : TaskSet} {slack : ℕ → ℕ} {m : ℕ} {jobs : Jobs} where
 
 pub fresh-starts : (tasks : TaskSet) (slack : ℕ → ℕ) (m : ℕ) (jobs : Jobs) → Fresh tasks jobs → Invariant tasks slack m jobs
 fresh-starts tasks slack m jobs fresh = invariant (λ i h. held-closed (omega (arith, fresh .gap-none i h)) (fresh .none i h))
-
--- No slack fits every set of tasks, and with it a job in time is ahead.
-pub no-slack-fits : (tasks : TaskSet) → SlackFits tasks noSlack
-unfolding SlackFits noSlack
-no-slack-fits tasks i h = omega arith
-
-pub in-time-ahead : (tasks : TaskSet) (slack : ℕ → ℕ) (m : ℕ) (jobs : Jobs) → Invariant tasks slack m jobs → Ahead tasks noSlack jobs
-unfolding Ahead noSlack
-in-time-ahead tasks slack m jobs inv i h e = omega (arith, inv .in-time i h e)

@@ -6,10 +6,9 @@ use native.Mathlib.Nat.{le-of-eq, le-trans}
 use native.Mathlib.Omega.{arith}
 use Rattle.edzl.specs.TaskSet.{TaskSet}
 use Rattle.edzl.proofs.WellFormed.{WellFormed}
-use Rattle.edzl.specs.Window.{interference, spare, noSlack}
+use Rattle.edzl.specs.Window.{spare}
 use Rattle.laws.proofs.CaseSplits.{by-order, not-both}
-use Rattle.edzl.proofs.InterferenceLaws.{monotone}
-use Rattle.edzl.proofs.WindowLaws.{SameTask}
+use Rattle.edzl.proofs.WindowLaws.{SameTask, window-more, part-grows}
 use Rattle.edzl.proofs.Invariant.{Jobs, NoJob, Bound, Invariant, SameJob, allowance, claim, invariant, of-task, held-closed}
 use Rattle.edzl.proofs.BoundLaws.{claim-start, bound-moved, claim-same, lost-same, held-same}
 
@@ -26,28 +25,12 @@ pub record SlackShrinks (shorter longer : TaskSet) (slack slack' : ℕ → ℕ) 
   pub no-larger : (i : ℕ) → i < shorter .count → slack' i ≤ slack i
   pub new-fits : slack' (shorter .count) ≤ spare longer (shorter .count)
 
-pub no-slack-shrinks : (shorter longer : TaskSet) → SlackShrinks shorter longer noSlack noSlack
-unfolding noSlack
-no-slack-shrinks shorter longer = record { no-larger = λ i h. omega arith; new-fits = omega arith }
-
 module _ (shorter longer : TaskSet) (slack slack' : ℕ → ℕ) (m : ℕ) (well : WellFormed longer) (less : SlackShrinks shorter longer slack slack') where
   module _ (before after : Jobs) (step : Joined shorter longer before after) (inv : Invariant shorter slack m before) where
-    -- A longer window takes no less.
-    window-more : (i K L : ℕ) → i < longer .count → K ≤ L →
-        interference (longer .period i) (longer .budget i) K ≤ interference (longer .period i) (longer .budget i) L
-    unfolding WellFormed
-    window-more i K L h l =
-        let fits = well i h in
-        monotone (longer .period i) (longer .budget i) (omega arith) (omega arith) K L l
-
     -- The old tasks are allowed no less.
     allowance-old : (k i : ℕ) → k < shorter .count → i < shorter .count → allowance shorter slack k i ≤ allowance longer slack' k i
     unfolding allowance
-    allowance-old k i h l =
-        let t = step .same-tasks i l in
-        let no-larger = less .no-larger i l in
-        rw (step .same-tasks k h .same-deadline, ← t .same-period, ← t .same-budget)
-        (window-more i (shorter .deadline k - slack i) (shorter .deadline k - slack' i) (omega arith) (omega arith))
+    allowance-old k i h = part-grows shorter longer well (omega arith) (step .same-tasks) slack slack' (less .no-larger) k h i
 
     -- The new task claims no more than it is allowed, from a job that has at most its whole deadline.
     claim-new : (l k : ℕ) → l ≤ longer .deadline k → claim longer after l (shorter .count) ≤ allowance longer slack' k (shorter .count)
@@ -56,7 +39,7 @@ module _ (shorter longer : TaskSet) (slack slack' : ℕ → ℕ) (m : ℕ) (well
         let n = shorter .count in
         le-trans
         (claim-start longer slack' after l n (well n (omega arith)) (less .new-fits) (λ o. not-both (after .isOpen n) o (step .new-job .closed)))
-        (window-more n (l - slack' n) (longer .deadline k - slack' n) (omega arith) (omega arith))
+        (window-more longer well n (l - slack' n) (longer .deadline k - slack' n) (omega arith) (omega arith))
 
     bound-old : (k : ℕ) → k < shorter .count → before .isOpen k ≡ true → Bound shorter slack m before k → Bound longer slack' m after k
     bound-old k h was-open =

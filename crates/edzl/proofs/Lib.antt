@@ -12,4 +12,7 @@ pub mod Join
 pub mod Choice
 pub mod Slot
 pub mod SlotKeeps
-pub mod NoSlack
+pub mod SlackRounds
+pub mod Safe
+pub mod SlackSame
+pub mod SlackExamplesHold

@@ -55,7 +55,7 @@ module _ (tasks : TaskSet) (slack : ℕ → ℕ) (m : ℕ) (well : WellFormed ta
               rw none (omega arith);
         }
 
-    -- The new job starts within its bound because the others are ahead by their slack. With no slack that is `in-time-ahead`.
+    -- The new job starts within its bound because the others are ahead by their slack.
     pub release-keeps : Ahead tasks slack before → Invariant tasks slack m after
     unfolding WellFormed
     release-keeps ahead =

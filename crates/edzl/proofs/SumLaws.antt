@@ -1,4 +1,4 @@
--- The laws of sums over the indexes below n, of sums that leave one index out, and of bits. Others cite: `sum-same`, `sum-strict`, `sum-one-more`,
+-- The laws of sums over the indexes below n, of sums that leave one index out, and of bits. Others cite: `sum-same`, `sum-monotone`, `sum-strict`, `sum-one-more`,
 -- `sum-longer`, `sum-bound`; `others-same`, `others-monotone`, `sum-others`, `others-gain`; `bit-true`, `bit-false`, `bit-small`, `bit-monotone`
 -- and `count-bound`.
 use Prim.Native.Nat.{ℕ, zero, suc, _+_, _*_, _≤_, _<_}
@@ -20,7 +20,7 @@ module _ (f g : ℕ → ℕ) where
   sum-same zero h = refl
   sum-same (suc n) h = ap₂ _+_ (sum-same n (down n h)) (h n (omega arith))
 
-  sum-monotone : (n : ℕ) → ((i : ℕ) → i < n → f i ≤ g i) → sumTo n f ≤ sumTo n g
+  pub sum-monotone : (n : ℕ) → ((i : ℕ) → i < n → f i ≤ g i) → sumTo n f ≤ sumTo n g
   unfolding sumTo
   sum-monotone zero h = le-refl _
   sum-monotone (suc n) h = omega (arith, sum-monotone n (down n h), h n (omega arith))

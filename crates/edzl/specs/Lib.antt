@@ -1,3 +1,5 @@
 pub mod TaskSet
 pub mod Sums
 pub mod Window
+pub mod Slack
+pub mod SlackExamples

@@ -24,8 +24,8 @@ others k f i = cond (eqb i k) 0 (f i)
 unfoldable pub noSlack : ℕ → ℕ
 noSlack i = 0
 
--- "The sum of task k is the total, over every i other than k, of min(I_i(D_k), A_k)." A slack shortens the window of its
--- task; document 01's test has none (`noSlack`).
+-- "The sum of task k is the total, over every i other than k, of min(I_i(D_k), A_k)."; document 02, change 6: "each sum uses
+-- I_i of max(0, D_k − S_i)" (`-` is 0 where S_i is the larger). Document 01's test has no slack (`noSlack`).
 unfoldable pub windowSum : TaskSet → (slack : ℕ → ℕ) → ℕ → ℕ
 windowSum tasks slack k =
     sumTo (tasks .count)

@@ -1,8 +1,8 @@
--- Why a window is divided by a period exactly where it is multiplied with the period's inverse. Others cite `parted`: the quotient so computed,
--- and a task's part by it; and for the ranges `inverse-fits` and `product-fits`.
+-- Why a number is divided exactly where it is multiplied with the divisor's inverse. Others cite `exact`, the quotient so computed; `parted`, a task's part
+-- by the quotient of a window by a period; and for the ranges `inverse-fits` and `product-fits`.
 use Prim.Native.Nat.{ℕ, _+_, _*_, _-_, _/_, _^_, _≤_, _<_, min}
 use mathlib.Core.Path.{_≡_, ap, _∙_}
-use native.Mathlib.Nat.{mul-le-mul, mul-comm, mul-left-comm, le-of-mul-le-mul-left, lt-of-mul-lt-mul-left}
+use native.Mathlib.Nat.{mul-le-mul, mul-le-mul-left, mul-comm, mul-left-comm, le-of-mul-le-mul-left, lt-of-mul-lt-mul-left}
 use native.Mathlib.Nat.{div-add-mod', div-eq-of-lt-le, div-le-self, mod-lt}
 use native.Mathlib.Omega.{arith}
 use Rattle.edzl.specs.Window.{interference}
@@ -32,25 +32,25 @@ quotient T L E q x T-some factor low high small =
 least-of-three : (a c s r : ℕ) → min (min (a + c) s) (a + r) ≡ min (a + min c r) s
 least-of-three a c s r = omega arith
 
+-- The inverse is next above the quotient: times the divisor it is more than the scale, by at most the divisor.
+next-above : (T : ℕ) → 1 ≤ T → (scale < T * (scale / T + 1)) × (T * (scale / T + 1) ≤ scale + T)
+next-above T T-some = omega (arith, div-add-mod' scale T, mod-lt scale T-some, mul-comm (scale / T) T)
+
+pub exact : (T L : ℕ) → 1 ≤ T → L * T < scale → L * (scale / T + 1) / scale ≡ L / T
+exact T L T-some small =
+    let x = T * (scale / T + 1) - scale in
+    let x-fits : x ≤ T = omega (arith, next-above T T-some) in
+    quotient T L (scale / T + 1) (L / T) x T-some
+    (omega (arith, next-above T T-some))
+    (omega (arith, div-add-mod' L T))
+    (omega (arith, div-add-mod' L T, mod-lt L T-some))
+    (omega (arith, mul-le-mul-left L x-fits))
+
 module _ (T L : ℕ) (T-some : 1 ≤ T) (T-fits : T ≤ 1_000_000) (L-fits : L ≤ 1_000_000) where
   pub product-fits : L * (scale / T + 1) ≤ 1_000_000 * (scale + 1)
   product-fits =
       let h : scale / T + 1 ≤ scale + 1 = omega (arith, div-le-self scale T) in
       mul-le-mul L-fits h
-
-  -- The inverse is next above the quotient: times the period it is more than the scale, by at most the period.
-  next-above : (scale < T * (scale / T + 1)) × (T * (scale / T + 1) ≤ scale + T)
-  next-above = omega (arith, div-add-mod' scale T, mod-lt scale T-some, mul-comm (scale / T) T)
-
-  exact : L * (scale / T + 1) / scale ≡ L / T
-  exact =
-      let x = T * (scale / T + 1) - scale in
-      let x-fits : x ≤ 1_000_000 = omega (arith, next-above) in
-      quotient T L (scale / T + 1) (L / T) x T-some
-      (omega (arith, next-above))
-      (omega (arith, div-add-mod' L T))
-      (omega (arith, div-add-mod' L T, mod-lt L T-some))
-      (omega (arith, mul-le-mul L-fits x-fits))
 
   module _ (C : ℕ) (C-fits : C ≤ T) (S : ℕ) where
     by-quotient : Parted T C L S (L / T)
@@ -64,4 +64,4 @@ module _ (T L : ℕ) (T-some : 1 ≤ T) (T-fits : T ≤ 1_000_000) (L-fits : L �
         record { split = split; within = within; part-is = rw room (least-of-three (q * C) C S (L - q * T)) }
 
     pub parted : (E : ℕ) → E ≡ scale / T + 1 → Parted T C L S (L * E / scale)
-    parted E e = rw (e, exact) by-quotient
+    parted E e = rw (e, exact T L T-some (omega (arith, mul-le-mul L-fits T-fits))) by-quotient

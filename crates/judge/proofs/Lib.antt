@@ -1,5 +1,10 @@
 pub mod Outcome
+pub mod SlackOutcome
+pub mod Admitted
 pub mod Inverse
 pub mod OwnPart
 pub mod Listed
+pub mod Mixed
+pub mod RoundsHeld
 pub mod Computing
+pub mod SlackExamplesHold

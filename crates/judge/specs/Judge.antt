@@ -1,4 +1,4 @@
--- The verdict on a table: document 01, "The window test" and "Why a call is not carried out".
+-- The verdict of the window test on a table: document 01, "The window test" and "Why a call is not carried out".
 use Prim.Native.Nat.{ℕ}
 use mathlib.Core.Bool.{Bool, false}
 use Rattle.edzl.specs.Window.{noSlack, countUrgent, admitted}
@@ -10,7 +10,7 @@ use Rattle.tasks.specs.TaskSet.{tasksOf}
 use Rattle.judge.specs.declared.Verdict.{Verdict}
 use Rattle.judge.specs.declared.Verdict.the-variants.{Judged, Refused}
 
--- what judging gives: whether it was carried out, COUNT, and whether the table is admitted
+-- what judging gives: whether it was carried out, COUNT, and whether the window test admits the table
 pub record Values : Type 0 where
   pub outcome : Outcome
   pub count : ℕ

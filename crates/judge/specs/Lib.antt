@@ -1,1 +1,4 @@
 pub mod Judge
+pub mod SlackJudge
+pub mod Listed
+pub mod SlackExamples

@@ -1,10 +1,13 @@
-// The admission test of a table: document 01, "The window test".
+// The window test of a table: document 01, "The window test". The slack test stands in slack.rt, and the admission by it in admission.rt.
 use crate::urgent::count_urgent;
 use tasks::check::check;
 use tasks::outcome::Outcome;
 use tasks::table::Table;
 
+pub mod admission;
 mod numbers;
+mod rounds;
+pub mod slack;
 mod sums;
 mod urgent;
 

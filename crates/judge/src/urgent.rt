@@ -16,8 +16,8 @@ ghost use Rattle.edzl.specs.Sums.{sumTo, bit};
 ghost use Rattle.edzl.specs.Window.{countUrgent, noSlack};
 ghost use Rattle.tasks.specs.TaskSet.{firstTasks};
 
-// What a task counts for in its own sum: in a window of its deadline it interferes by its budget.
-fn own_part(budget: u32, spare: u32) -> u64
+// What a task counts for in its own sum: in a window of its deadline less its slack it interferes by its budget.
+pub(crate) fn own_part(budget: u32, spare: u32) -> u64
     ensures { λ r. ⌜ r ≡ min budget spare ⌝ }
 {
     least(budget as u64, spare as u64)
@@ -25,7 +25,7 @@ fn own_part(budget: u32, spare: u32) -> u64
 
 // How many tasks have a sum over the others that is at least `cores` times their spare. The sums count the task itself
 // too, so its own part stands on both sides.
-fn count_by_sums<'a>(
+pub(crate) fn count_by_sums<'a>(
     budgets: &'a [u32; MAX_TASKS],
     deadlines: &'a [u32; MAX_TASKS],
     sums: &[u64; MAX_TASKS],
@@ -69,6 +69,7 @@ pub(crate) fn count_urgent(tasks: [Task; MAX_TASKS], count: usize, cores: u32) -
         &numbers.periods,
         &numbers.budgets,
         &numbers.deadlines,
+        &numbers.inverses,
         &mut sums,
         count,
     );

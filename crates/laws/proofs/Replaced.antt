@@ -1,5 +1,5 @@
 -- The entries of a list that a loop rewrites. Others cite: `replicate-entry`; and of `replaced` `replaced-more`, a turn of such a loop,
--- `length-replaced`, `replaced-at`, `replaced-past`, `replaced-short` and `replaced-set`.
+-- `length-replaced`, `replaced-same`, `replaced-at`, `replaced-past`, `replaced-short` and `replaced-set`.
 use Prim.Native.Nat.{ℕ, zero, suc, _+_, _≤_, _<_}
 use mathlib.Core.Path.{_≡_, refl, sym, _∙_}
 use mathlib.Core.List.{List}
@@ -7,6 +7,7 @@ use native.Mathlib.Numerals.{add-one}
 use native.Mathlib.Omega.{arith}
 use lib.ListN.{getD, set, length, replicate, length-set, length-replicate, getD-replicate, List·getD-eq-default}
 use lib.Seq.{getD-set-same, getD-set-other, ext-getD}
+use Rattle.laws.proofs.Below.{down}
 use Rattle.laws.proofs.CaseSplits.{by-order, by-equal}
 use Rattle.laws.specs.Lists.{replaced}
 
@@ -24,6 +25,12 @@ pub replaced-more : {A : Type 0} (f : ℕ → A) (l : List A) (n : ℕ) {l' : Li
     set l' n v ≡ replaced (n + 1) f l
 unfolding replaced
 replaced-more f l n so-far next = rw (add-one n, so-far, next)
+
+-- Entries that agree below n make the same list.
+pub replaced-same : {A : Type 0} (f g : ℕ → A) (l : List A) (n : ℕ) → ((i : ℕ) → i < n → f i ≡ g i) → replaced n f l ≡ replaced n g l
+unfolding replaced
+replaced-same f g l zero h = refl
+replaced-same f g l (suc n) h = rw (replaced-same f g l n (down n h), h n (omega arith))
 
 module _ {A : Type 0} (f : ℕ → A) (l : List A) where
   pub length-replaced : (n : ℕ) → length (replaced n f l) ≡ length l

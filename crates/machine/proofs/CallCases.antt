@@ -16,8 +16,8 @@ use Rattle.tasks.specs.Task.{inRange}
 use Rattle.tasks.specs.Table.{withTask}
 use Rattle.laws.proofs.CaseSplits.{not-both, by-cond}
 use Rattle.tasks.proofs.OutcomeLaws.{Numbered}
-use Rattle.judge.specs.Judge.{judged}
-use Rattle.judge.proofs.Outcome.{judged-numbered}
+use Rattle.judge.specs.SlackJudge.{admission}
+use Rattle.judge.proofs.Admitted.{admission-numbered}
 use Rattle.job.specs.Job.{closedJob, releasedJob}
 use Rattle.job.proofs.NeedLaws.{NeedRange, need-range}
 use Rattle.machine.specs.Machine.{taskAt, jobAt, withJob}
@@ -77,7 +77,7 @@ pub record SlotTaken (m : Machine) (k : ℕ) (ran : List Bool) (cores : List ℕ
 
 pub record JoinTaken (m : Machine) (t : Task) : Type 0 where
   pub is-sound : sound m ≡ true
-  pub admits : judged (withTask (m .table) t) (m .cores) .admits ≡ true
+  pub admits : admission (withTask (m .table) t) (m .cores) .admits ≡ true
 
 -- what holds of a refused call's answer and of each accepted call's holds of every call's
 module _
@@ -151,4 +151,4 @@ module _
         past-0 _ λ ok.
         past _ (not (inRange t)) taskOutOfRange (omega arith) λ in-range.
         past _ (leb maxTasks (m .table .count)) tableFull (omega arith) λ room.
-        by-verdict t _ _ (judged-numbered (withTask (m .table) t) (m .cores)) λ admits. record { is-sound = ok; admits = admits }
+        by-verdict t _ _ (admission-numbered (withTask (m .table) t) (m .cores)) λ admits. record { is-sound = ok; admits = admits }

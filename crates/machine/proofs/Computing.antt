@@ -1,7 +1,5 @@
 -- What a computed test looks through, in one name: a proof `unfolding computing` computes verdicts and runs of the machine.
 use mathlib.Core.Bool.{Bool, true}
-use Rattle.edzl.specs.Sums.{sumTo, bit}
-use Rattle.edzl.specs.Window.{interference, spare, others, noSlack, windowSum, mayTurnUrgent, countUrgent, admitted}
 use Rattle.tasks.specs.Task.{inRange}
 use Rattle.tasks.specs.Table.{zeroTask, emptyTable, withTask}
 use Rattle.tasks.specs.Check.{firstOutOfRange, coresInRange, checked}
@@ -14,22 +12,21 @@ use Rattle.machine.specs.Machine.{zeroMachine, taskAt, jobAt, withJob, i
 use Rattle.machine.specs.Pick.{openCount, waiting, precedes, candidates, withPicked, pick, runnerCount, runners}
 use Rattle.machine.specs.Slot.{passed, ranCount, noReport, slotReport, afterSlot}
 use Rattle.machine.specs.Cores.{runnerOrder, slotAssignment, withAssigned}
-use Rattle.laws.specs.Lists.{replaced}
 use Rattle.machine.specs.Sound.{jobsSound, sound}
 use Rattle.machine.specs.Calls.{done, refuse, startAfter, start, release, finish, slotCoresInRange, slot, withJoined, joinAfter, join, step}
 use Rattle.machine.specs.Play.{play}
 use Rattle.machine.specs.InTime.{isSlot, acceptedSlot}
 use Rattle.machine.specs.Mask.{mask}
-use Rattle.machine.specs.Cases.{task, tableWith, tableOf, slotLines, sameLines, releases, allReleased, session, holds, line, example}
+use Rattle.tasks.specs.Written.{task, tableWith, tableOf}
+use Rattle.machine.specs.Cases.{slotLines, sameLines, releases, allReleased, session, holds, line, example}
 
 unfoldable pub computing : Bool
 unfolding
-    sumTo bit interference spare others noSlack windowSum mayTurnUrgent countUrgent admitted
     inRange zeroTask emptyTable withTask firstOutOfRange coresInRange checked isDone firstTasks tasksOf
     computingVerdicts computingJobs computingCores
     zeroMachine taskAt jobAt withJob inTable
     openCount waiting precedes candidates withPicked pick runnerCount runners
-    passed ranCount replaced noReport slotReport afterSlot
+    passed ranCount noReport slotReport afterSlot
     runnerOrder slotAssignment withAssigned
     jobsSound sound
     done refuse startAfter start release finish slotCoresInRange slot withJoined joinAfter join step play

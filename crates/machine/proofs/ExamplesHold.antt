@@ -12,6 +12,8 @@ use Rattle.tasks.specs.declared.outcome.Outcome.the-variants.{Done}
 use Rattle.tasks.specs.Table.{zeroTask}
 use Rattle.laws.proofs.CaseSplits.{not-both}
 use Rattle.judge.specs.Judge.{judged}
+use Rattle.judge.specs.SlackJudge.{admission}
+use Rattle.judge.specs.SlackExamples.{fourTasks}
 use Rattle.tasks.specs.Outcome.{isDone}
 use Rattle.machine.specs.Slot.{noReport}
 use Rattle.job.specs.FormerSound.{formerJobSound}
@@ -19,9 +21,10 @@ use Rattle.machine.specs.Calls.{start}
 use Rattle.machine.specs.FormerRelease.{wholeJob, wholeRelease, formerJobsSound, formerSound, formerRelease}
 use Rattle.machine.specs.Play.{Entry, play, machineAfter}
 use Rattle.machine.specs.InTime.{isFinishOf, acceptedFinish, saysRan, saysFinished, slotCount, upToSlot, ranWhole, anyFinish, tableAfter, joinedBy, closedBySlot, InTime, Promise}
-use Rattle.machine.specs.Cases.{task, tableOf, session, example}
+use Rattle.tasks.specs.Written.{task, tableOf}
+use Rattle.machine.specs.Cases.{session, example}
 use Rattle.machine.specs.Examples.{answers, refusalBefore, refusals, runnerCounts, runIs, ignoredIs, many, pressed, pressedCalls, ignoredSlot, atPlace0, emptyRefusals, withoutTasks, madeByHand, allKinds, whole, overtaken, ignored, examples, slotOf, idle, ran, ranLast, accepted, refused, closedIn, claims}
-use Rattle.cores.specs.Examples.{sameNumbers, allTrue}
+use Rattle.laws.specs.Examples.{sameNumbers, allTrue}
 use Rattle.machine.specs.Machine.{coreAt}
 use Rattle.machine.specs.CoreExamples.{coreLines, sameLists, coresAre, three, everySlot, recording, recordAfter, elseNoCores, coreExamples}
 use Rattle.machine.specs.NeedExamples.{soonAndLong, twice, heldBack, heldBackCalls, jobAfter, opensWith, needExamples}
@@ -87,7 +90,9 @@ pub record NotEmpty : Type 0 where
   pub table : Table
   pub cores : ℕ
   pub calls : List Call
-  pub admitted : judged table cores .admits ≡ true
+  pub admitted : admission table cores .admits ≡ true
+  -- only the slack test admits it
+  pub window-refuses : judged table cores .admits ≡ false
   -- the log, cut at a release of the task with this number, which names this need
   pub number : ℕ
   pub need : ℕ
@@ -106,24 +111,25 @@ pub record NotEmpty : Type 0 where
   pub finished-at : ℕ
   pub finished : saysFinished number (getD after finished-at entry) ≡ true
 
--- on 2 cores, the three tasks of "The table above" are released and eight slots follow; the release is that of task 3, with a need of 4 of its 6
+-- on 2 cores, document 002's four tasks are released and eight slots follow; the release is that of task 4, with a need of 2 of its 3
 exampleCalls : List Call
-exampleCalls = Release 1 1 ∷ Release 2 2 ∷ Release 3 4 ∷ replicate 8 (Slot 2)
+exampleCalls = Release 1 1 ∷ Release 2 1 ∷ Release 3 1 ∷ Release 4 2 ∷ replicate 8 (Slot 2)
 
 pub not-empty : NotEmpty
-unfolding computing answers exampleCalls saysRan saysFinished slotCount tableAfter joinedBy
+unfolding computing answers fourTasks exampleCalls saysRan saysFinished slotCount tableAfter joinedBy
 not-empty =
-    let entries = answers example 2 exampleCalls in
+    let entries = answers fourTasks 2 exampleCalls in
     record {
-      table = tableOf example;
+      table = tableOf fourTasks;
       cores = 2;
       calls = exampleCalls;
       admitted = refl;
-      number = 3;
-      need = 4;
-      before = take 2 entries;
-      entry = record { call = Release 3 4; outcome = Done; report = noReport };
-      after = drop 3 entries;
+      window-refuses = refl;
+      number = 4;
+      need = 2;
+      before = take 3 entries;
+      entry = record { call = Release 4 2; outcome = Done; report = noReport };
+      after = drop 4 entries;
       log = refl;
       called = refl;
       released = refl;
@@ -131,7 +137,7 @@ not-empty =
       enough-slots = omega arith;
       ran-at = 1;
       ran = refl;
-      finished-at = 4;
+      finished-at = 2;
       finished = refl;
     }
 

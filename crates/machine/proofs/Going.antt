@@ -28,11 +28,11 @@ pub record Going (m : Machine) (i l b : ℕ) : Type 0 where
 module _ {m : Machine} {i l b : ℕ} (going : Going m i l b) where
   pub left-some : 1 ≤ l
   unfolding tasksOf firstTasks
-  left-some = omega (arith, going .left-is, going .kept .safe .shape i (going .inside) .while-open (going .is-open) .left-some)
+  left-some = omega (arith, going .left-is, going .kept .safe 0 .shape i (going .inside) .while-open (going .is-open) .left-some)
 
   pub budget-some : 1 ≤ b
   unfolding tasksOf firstTasks
-  budget-some = omega (arith, going .budget-is, going .kept .safe .shape i (going .inside) .while-open (going .is-open) .budget-some)
+  budget-some = omega (arith, going .budget-is, going .kept .safe 0 .shape i (going .inside) .while-open (going .is-open) .budget-some)
 
   pub going-same : (m' : Machine) → Kept m' → i < m' .table .count → SameJob (jobsOf m) (jobsOf m') i → Going m' i l b
   going-same m' kept' inside' same =

@@ -1,4 +1,5 @@
--- Demand 3: from an admitted table, over every list of calls, no slot is late and every job is closed in time. The theorem is `promise`.
+-- Demand 3: from an admitted table, over every list of calls, no slot is late and every job is closed in time. The theorem is `promise`, of tables
+-- that the slack test admits, and with it `window-promise`, of those that the window test admits.
 use Prim.Native.Nat.{ℕ, suc, _-_, _≤_}
 use mathlib.Core.Path.{_≡_, refl, _∙_}
 use mathlib.Core.Bool.{Bool, true, false, cond}
@@ -12,9 +13,11 @@ use Rattle.machine.specs.Slot.{slotReport, afterSlot}
 use Rattle.machine.specs.Cores.{withAssigned}
 use Rattle.tasks.specs.Outcome.{isDone}
 use Rattle.job.specs.Job.{releasedJob}
-use Rattle.machine.specs.Calls.{withJoined, step}
+use Rattle.judge.specs.Judge.{judged}
+use Rattle.judge.proofs.Admitted.{window-admitted}
+use Rattle.machine.specs.Calls.{start, withJoined, step}
 use Rattle.machine.specs.Play.{play}
-use Rattle.machine.specs.InTime.{slotCount, joinedBy, closedBySlot, Promise}
+use Rattle.machine.specs.InTime.{slotCount, joinedBy, closedBySlot, InTime, Promise}
 use Rattle.machine.specs.declared.machine.Machine.{Machine}
 use Rattle.machine.specs.declared.call.Call.{Call}
 use Rattle.machine.proofs.State.{jobsOf}
@@ -107,3 +110,11 @@ pub promise : (t : Table) (cores : ℕ) → Promise t cores
 unfolding Promise freshMachine
 promise t cores yes-admitted calls =
     rw (started t cores yes-admitted) (each-in-time _ _ (each-entry calls (freshMachine t cores) (kept-fresh t cores yes-admitted)))
+
+-- The same of a table that the window test admits.
+pub window-promise : (t : Table) (cores : ℕ) →
+    judged t cores .admits ≡ true →
+    (calls : List Call) →
+    InTime t (play (start t cores .machine) calls)
+unfolding Promise
+window-promise t cores yes-admitted = promise t cores (window-admitted t cores yes-admitted)

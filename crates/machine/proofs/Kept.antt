@@ -10,11 +10,11 @@ use Rattle.tasks.specs.declared.table.Table.{Table}
 use Rattle.tasks.specs.Limits.{maxTasks}
 use Rattle.tasks.specs.Table.{withTask}
 use Rattle.edzl.specs.Sums.{bit}
-use Rattle.edzl.specs.Window.{admitted}
+use Rattle.edzl.specs.Slack.{slackAdmits}
 use Rattle.edzl.proofs.Invariant.{Fresh}
-use Rattle.edzl.proofs.NoSlack.{Safe, safe-fresh, safe-release, safe-finish, safe-slot, on-time, safe-join}
+use Rattle.edzl.proofs.Safe.{Safe, safe-fresh, safe-release, safe-finish, safe-slot, on-time, safe-join}
 use Rattle.tasks.specs.TaskSet.{firstTasks, tasksOf}
-use Rattle.judge.specs.Judge.{judged}
+use Rattle.judge.specs.SlackJudge.{admission}
 use Rattle.job.specs.declared.job.Job.{Job}
 use Rattle.job.specs.Job.{freshJob}
 use Rattle.machine.specs.Machine.{jobAt, withJob}
@@ -26,7 +26,7 @@ use Rattle.machine.specs.declared.call.Call.{Call}
 use Rattle.machine.proofs.State.{jobsOf}
 use Rattle.machine.proofs.SlotStep.{LegalSlot, slot-step}
 use Rattle.tasks.proofs.TaskSetLaws.{well-checked}
-use Rattle.judge.proofs.Outcome.{Admits, admits-means}
+use Rattle.judge.proofs.Admitted.{SlackAdmits, admission-means}
 use Rattle.laws.proofs.Replaced.{replicate-entry, length-replaced}
 use Rattle.machine.proofs.SoundLaws.{sound-fits}
 use Rattle.machine.proofs.CallCases.{ReleaseTaken, FinishTaken, JoinTaken, afterRelease, afterFinish, by-call}
@@ -34,7 +34,7 @@ use Rattle.machine.proofs.JobSteps.{release-step, finish-step, join-ste
 
 pub record Kept (m : Machine) : Type 0 where
   pub safe : Safe (tasksOf (m .table)) (m .cores) (jobsOf m)
-  pub admits : admitted (tasksOf (m .table)) (m .cores) ≡ true
+  pub admits : slackAdmits (tasksOf (m .table)) (m .cores) ≡ true
   -- so that a job that is set is there
   pub all-jobs : length (m .jobs) ≡ maxTasks
 
@@ -42,9 +42,9 @@ pub record Kept (m : Machine) : Type 0 where
 unfoldable pub freshMachine : Table → (cores : ℕ) → Machine
 freshMachine t cores = record { table = t; cores = cores; jobs = replicate maxTasks freshJob; assigned = replicate maxTasks 0 }
 
-module _ (t : Table) (cores : ℕ) (yes-admitted : judged t cores .admits ≡ true) where
-  means : Admits t cores
-  means = admits-means t cores yes-admitted
+module _ (t : Table) (cores : ℕ) (yes-admitted : admission t cores .admits ≡ true) where
+  means : SlackAdmits t cores
+  means = admission-means t cores yes-admitted
 
   pub started : start t cores .machine ≡ freshMachine t cores
   unfolding start startAfter done freshMachine
@@ -92,7 +92,7 @@ module _ (m : Machine) (kept : Kept m) where
   pub kept-join : (t : Task) → JoinTaken m t → Kept (withJoined m t)
   unfolding withJoined
   kept-join t taken =
-      let longer = admits-means (withTask (m .table) t) (m .cores) (taken .admits) in
+      let longer = admission-means (withTask (m .table) t) (m .cores) (taken .admits) in
       record {
         safe = safe-join _ _ _ _ _ (well-checked _ _ (longer .checks)) (join-step m t) (kept .safe);
         admits = longer .admits;

@@ -19,7 +19,7 @@ use Rattle.tasks.specs.Refusals.{slotCoresOutOfRange}
 use Rattle.tasks.specs.Check.{checked}
 use Rattle.tasks.specs.Table.{zeroTask, withTask}
 use Rattle.tasks.proofs.OutcomeLaws.{by-outcome}
-use Rattle.judge.proofs.Outcome.{admits-means}
+use Rattle.judge.proofs.Admitted.{admission-means}
 use Rattle.job.specs.declared.job.Job.{Job}
 use Rattle.job.specs.Job.{freshJob}
 use Rattle.job.specs.Sound.{jobSound}
@@ -110,7 +110,7 @@ module _ (m : Machine) (ok : sound m ≡ true) where
     join-keeps taken =
         record {
           is-sound =
-              make-sound (withJoined m t) (admits-means (withTask (m .table) t) (m .cores) (taken .admits) .checks) each-job
+              make-sound (withJoined m t) (admission-means (withTask (m .table) t) (m .cores) (taken .admits) .checks) each-job
               (join-cores (m .table .count) (m .assigned) (sound-cores m ok));
           cores-are = refl;
         }

@@ -1,5 +1,5 @@
 -- The calls as they were before document 02's change 4, on the machine without cores, for the theorems of proofs/AsBefore.antt alone; a release as change 5
--- has it.
+-- has it, and a join's verdict as change 6 has it.
 use Prim.Native.Nat.{ℕ, _-_}
 use mathlib.Core.Bool.{Bool, false, cond, not, _&&_}
 use mathlib.Core.List.{List, [], _∷_}
@@ -14,7 +14,7 @@ use Rattle.tasks.specs.Limits.{maxTasks, maxCores}
 use Rattle.tasks.specs.Refusals.{unsoundMachine, taskOutOfRange, noSuchTask, releasedTooSoon, jobNotOpen, tableFull, notAdmitted, slotCoresOutOfRange, needOutOfRange}
 use Rattle.tasks.specs.Task.{inRange}
 use Rattle.tasks.specs.Table.{withTask}
-use Rattle.judge.specs.Judge.{judged}
+use Rattle.judge.specs.SlackJudge.{admission}
 use Rattle.job.specs.declared.job.Job.{Job}
 use Rattle.job.specs.Job.{freshJob, needInRange, releasedJob, closedJob}
 use Rattle.job.specs.Slot.{charged, aged, isFinished, isLate, settled}
@@ -122,10 +122,10 @@ unfoldable pub bareJoinAfter : Outcome → (admits : Bool) → BareMachine → T
 bareJoinAfter Done admits b t = cond admits (bareDone (bareWithJoined b t)) (bareRefuse b notAdmitted)
 bareJoinAfter (Refused number place) admits b t = record { machine = b; outcome = Refused number place; report = bareNoReport }
 
--- "Join: 5, 12, 13", after 0
+-- "Join: 5, 12, 13", after 0, by the slack test
 unfoldable pub bareJoin : BareMachine → Task → BareAnswer
 bareJoin b t =
-    let verdict = judged (withTask (b .table) t) (b .cores) in
+    let verdict = admission (withTask (b .table) t) (b .cores) in
     cond (not (bareSound b)) (bareRefuse b unsoundMachine)
     (cond (not (inRange t)) (bareRefuse b taskOutOfRange)
     (cond (leb maxTasks (b .table .count)) (bareRefuse b tableFull) (bareJoinAfter (verdict .outcome) (verdict .admits) b t)))

@@ -1,5 +1,5 @@
 -- The calls of the machine: document 01, "The slot machine" and "Why a call is not carried out"; a slot by document 02, change 1, a release by
--- changes 3 and 5, and the cores of a start, a slot and a join by change 4.
+-- changes 3 and 5, the cores of a start, a slot and a join by change 4, and a join's verdict by change 6.
 use Prim.Native.Nat.{ℕ, _-_}
 use mathlib.Core.Bool.{Bool, cond, not, _&&_}
 use lib.Dec.{leb, ltb}
@@ -13,7 +13,7 @@ use Rattle.tasks.specs.Refusals.{unsoundMachine, taskOutOfRange, noSuchTask, re
 use Rattle.tasks.specs.Task.{inRange}
 use Rattle.tasks.specs.Table.{withTask}
 use Rattle.tasks.specs.Check.{checked}
-use Rattle.judge.specs.Judge.{judged}
+use Rattle.judge.specs.SlackJudge.{admission}
 use Rattle.job.specs.Job.{freshJob, needInRange, releasedJob, closedJob}
 use Rattle.machine.specs.Machine.{zeroMachine, taskAt, jobAt, withJob, inTable}
 use Rattle.machine.specs.Pick.{runners}
@@ -92,10 +92,10 @@ unfoldable pub joinAfter : Outcome → (admits : Bool) → Machine → Task → 
 joinAfter Done admits m t = cond admits (done (withJoined m t)) (refuse m notAdmitted)
 joinAfter (Refused number place) admits m t = record { machine = m; outcome = Refused number place; report = noReport }
 
--- "Join: 5, 12, 13", after 0
+-- "Join: 5, 12, 13", after 0; change 6: "Joins .. go by this test"
 unfoldable pub join : Machine → Task → Answer
 join m t =
-    let verdict = judged (withTask (m .table) t) (m .cores) in
+    let verdict = admission (withTask (m .table) t) (m .cores) in
     cond (not (sound m)) (refuse m unsoundMachine)
     (cond (not (inRange t)) (refuse m taskOutOfRange)
     (cond (leb maxTasks (m .table .count)) (refuse m tableFull) (joinAfter (verdict .outcome) (verdict .admits) m t)))

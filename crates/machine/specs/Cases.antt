@@ -9,6 +9,7 @@ use Rattle.edzl.specs.Window.{interference}
 use Rattle.tasks.specs.declared.task.Task.{Task}
 use Rattle.tasks.specs.declared.table.Table.{Table}
 use Rattle.tasks.specs.Table.{zeroTask, emptyTable, withTask}
+use Rattle.tasks.specs.Written.{task, tableOf}
 use Rattle.judge.specs.Judge.{judged}
 use Rattle.machine.specs.Mask.{mask}
 use Rattle.tasks.specs.Outcome.{isDone}
@@ -29,19 +30,6 @@ pub data Case : Type 0 where
   interferenceIs : (period budget window value : ℕ) → Case
   verdictIs : List Task → (cores count : ℕ) → (admits : Bool) → Case
   sessionIs : List Task → (cores : ℕ) → List Line → Case
-
--- a task by its three numbers, "T, C, D"
-unfoldable pub task : (period budget deadline : ℕ) → Task
-task period budget deadline = record { period = period; budget = budget; deadline = deadline }
-
--- a table with these tasks added at its end, in order
-unfoldable pub tableWith : Table → List Task → Table
-tableWith t [] = t
-tableWith t (k ∷ tasks) = tableWith (withTask t k) tasks
-
--- the table of these tasks
-unfoldable pub tableOf : List Task → Table
-tableOf tasks = tableWith emptyTable tasks
 
 -- what the accepted slots of a log report, a line for each
 unfoldable pub slotLines : List Entry → List Line

@@ -1,4 +1,4 @@
--- Examples of document 02's change 4 on the machine, as entries of a list of computed tests: `allTrue` of crate cores is the test, and the
+-- Examples of document 02's change 4 on the machine, as entries of a list of computed tests: `allTrue` of crate laws is the test, and the
 -- theorem stands in proofs/ExamplesHold.antt. Those of the assignment alone are in crate cores.
 use Prim.Native.Nat.{ℕ}
 use mathlib.Core.Bool.{Bool, true, false, cond, not, _&&_, _||_}
@@ -9,13 +9,14 @@ use Rattle.tasks.specs.declared.task.Task.{Task}
 use Rattle.tasks.specs.Limits.{maxTasks}
 use Rattle.tasks.specs.Table.{emptyTable}
 use Rattle.job.specs.Job.{freshJob}
-use Rattle.cores.specs.Examples.{sameNumbers}
+use Rattle.laws.specs.Examples.{sameNumbers}
 use Rattle.machine.specs.Machine.{coreAt}
 use Rattle.machine.specs.Sound.{sound}
 use Rattle.machine.specs.Calls.{start}
 use Rattle.machine.specs.Play.{Entry, play, machineAfter}
 use Rattle.machine.specs.InTime.{acceptedSlot}
-use Rattle.machine.specs.Cases.{task, tableOf, allReleased}
+use Rattle.tasks.specs.Written.{task, tableOf}
+use Rattle.machine.specs.Cases.{allReleased}
 use Rattle.machine.specs.Examples.{answers, refusals}
 use Rattle.machine.specs.declared.machine.Machine.{Machine}
 use Rattle.machine.specs.declared.call.Call.{Call}

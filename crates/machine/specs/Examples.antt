@@ -1,7 +1,7 @@
 -- Examples beside the cases of document 01, as entries of lists of computed tests; above 150 lines because it is these lists alone, with the words
 -- that they are written in. `examples` has runs of the machine: joins, a task that turns urgent, refused calls, slots with
 -- other cores than the machine's (document 02, change 1), jobs of equal deadlines (change 2), and machines made by hand (change 3). `claims` has logs
--- made by hand, and what the claim of demand 3 says of them. `allTrue` of crate cores is the test; the theorems
+-- made by hand, and what the claim of demand 3 says of them. `allTrue` of crate laws is the test; the theorems
 -- stand in proofs/ExamplesHold.antt.
 use Prim.Native.Nat.{ℕ, _+_}
 use mathlib.Core.Bool.{Bool, true, false, cond, not, _&&_}
@@ -16,7 +16,7 @@ use Rattle.tasks.specs.Refusals.{unsoundMachine}
 use Rattle.tasks.specs.Limits.{maxTasks}
 use Rattle.tasks.specs.Table.{zeroTask, emptyTable}
 use Rattle.job.specs.Job.{freshJob}
-use Rattle.cores.specs.Examples.{sameNumbers}
+use Rattle.laws.specs.Examples.{sameNumbers}
 use Rattle.machine.specs.declared.machine.Machine.{Machine}
 use Rattle.machine.specs.Mask.{mask}
 use Rattle.machine.specs.Slot.{noReport}
@@ -25,7 +25,8 @@ use Rattle.machine.specs.Calls.{start}
 use Rattle.machine.specs.FormerRelease.{formerRelease}
 use Rattle.machine.specs.Play.{Entry, play}
 use Rattle.machine.specs.InTime.{acceptedSlot, slotCount, closedBySlot, tableAfter}
-use Rattle.machine.specs.Cases.{Line, verdictIs, sessionIs, task, tableOf, slotLines, sameLines, allReleased, holds, line, example}
+use Rattle.tasks.specs.Written.{task, tableOf}
+use Rattle.machine.specs.Cases.{Line, verdictIs, sessionIs, slotLines, sameLines, allReleased, holds, line, example}
 use Rattle.machine.specs.declared.call.Call.{Call}
 use Rattle.machine.specs.declared.call.Call.the-variants.{Release, Finish, Slot, Join}
 
@@ -123,7 +124,7 @@ ignored call number =
 -- runs of the machine, and which machines are sound
 unfoldable pub examples : List Bool
 examples =
-    -- 32 tasks on 16 cores: COUNT 12, admitted; on 11 cores the same COUNT, refused
+    -- 32 tasks on 16 cores, by the window test: COUNT 12, admitted; on 11 cores the same COUNT, refused
     holds (verdictIs many 16 12 true) ∷
     holds (verdictIs many 11 12 false) ∷
     -- a 33rd task is refused by 12
@@ -133,6 +134,10 @@ examples =
     (Release 1 1 ∷ Release 2 2 ∷ Slot 2 ∷ Join (task 10 6 8) ∷ Release 3 6 ∷ replicate 6 (Slot 2))
     []
     (line 3 1 0 ∷ line 6 2 0 ∷ line 4 0 0 ∷ line 4 0 0 ∷ line 4 0 0 ∷ line 4 0 0 ∷ line 4 4 0 ∷ []) ∷
+    -- a join that the slack test admits and the window test does not, before the releases: none is late
+    holds (verdictIs (task 4 1 1 ∷ task 4 1 4 ∷ task 5 1 5 ∷ []) 1 2 false) ∷
+    runIs (task 4 1 1 ∷ task 4 1 4 ∷ []) 1 (Join (task 5 1 5) ∷ Release 1 1 ∷ Release 2 1 ∷ Release 3 1 ∷ replicate 5 (Slot 1)) []
+    (line 1 1 0 ∷ line 2 2 0 ∷ line 4 4 0 ∷ line 0 0 0 ∷ line 0 0 0 ∷ []) ∷
     -- a join that is not admitted changes no later answer
     ignoredIs whole 2 (Release 1 5 ∷ Slot 2 ∷ []) (Join (task 5 5 5)) 13 (Release 2 5 ∷ replicate 5 (Slot 2))
     (line 1 0 0 ∷ line 3 0 0 ∷ line 3 0 0 ∷ line 3 0 0 ∷ line 3 1 0 ∷ line 2 2 0 ∷ []) ∷

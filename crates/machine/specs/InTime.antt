@@ -9,7 +9,7 @@ use lib.ListN.{getD}
 use Rattle.tasks.specs.declared.table.Table.{Table}
 use Rattle.tasks.specs.Table.{zeroTask, withTask}
 use Rattle.tasks.specs.Outcome.{isDone}
-use Rattle.judge.specs.Judge.{judged}
+use Rattle.judge.specs.SlackJudge.{admission}
 use Rattle.machine.specs.Calls.{start}
 use Rattle.machine.specs.Play.{Entry, play}
 use Rattle.machine.specs.declared.call.Call.{Call}
@@ -100,9 +100,9 @@ pub record InTime (t : Table) (log : List Entry) : Type 0 where
       deadline ≤ slotCount after → closedBySlot number need deadline after ≡ true
 
 -- the claim of every list of calls from a fresh machine on a table that is admitted; document 02, change 1: "whichever k, from m to 16, each slot
--- gets", since the slots of a list name any k; change 5: "for all choices of e", since its releases name any e
+-- gets", since the slots of a list name any k; change 5: "for all choices of e", since its releases name any e; change 6: "true of tables admitted here"
 unfoldable pub Promise : Table → (cores : ℕ) → Type 0
-Promise t cores = judged t cores .admits ≡ true → (calls : List Call) → InTime t (play (start t cores .machine) calls)
+Promise t cores = admission t cores .admits ≡ true → (calls : List Call) → InTime t (play (start t cores .machine) calls)
 
 -- what a start's contract says: which answer it gives, and the promise of its table and cores
 pub record Started (t : Table) (cores : ℕ) (answer : Answer) : Type 0 where

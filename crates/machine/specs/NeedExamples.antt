@@ -13,7 +13,8 @@ use Rattle.machine.specs.Calls.{start}
 use Rattle.machine.specs.FormerRelease.{wholeRelease}
 use Rattle.machine.specs.Play.{machineAfter}
 use Rattle.machine.specs.InTime.{closedBySlot}
-use Rattle.machine.specs.Cases.{verdictIs, task, tableOf, holds, line}
+use Rattle.tasks.specs.Written.{task, tableOf}
+use Rattle.machine.specs.Cases.{verdictIs, holds, line}
 use Rattle.machine.specs.Examples.{answers, runIs, ignoredIs, emptyRefusals}
 use Rattle.machine.specs.declared.call.Call.{Call}
 use Rattle.machine.specs.declared.call.Call.the-variants.{Release, Finish, Slot, Join}

@@ -3,7 +3,7 @@ use crate::answer::Answer;
 use crate::answer::Report;
 use crate::machine::Machine;
 use job::job::fresh_job;
-use judge::Verdict;
+use judge::admission::Admission;
 use tasks::limits::MAX_TASKS;
 use tasks::refusals::NOT_ADMITTED;
 use tasks::refusals::TABLE_FULL;
@@ -30,7 +30,7 @@ impl Machine {
         self.with_job(count, fresh_job())
     }
 
-    // A task joins, if the longer table is admitted on the machine's cores.
+    // A task joins, if the slack test admits the longer table on the machine's cores.
     pub fn join(self, task: Task) -> Answer
         ensures { λ r. ⌜ r ≡ join self task ⌝ }
     {
@@ -45,8 +45,8 @@ impl Machine {
         }
         let longer = self.with_joined(task);
         let table = longer.table;
-        let verdict = judge::judge(table, self.cores);
-        let Verdict::Judged { count: _, admitted } = verdict else {
+        let verdict = judge::admission::admit(table, self.cores);
+        let Admission::Judged { admitted } = verdict else {
             let outcome = verdict.outcome();
             let report = Report::none();
             return Answer {

@@ -13,7 +13,8 @@ use Rattle.tasks.specs.declared.table.Table.{Table}
 use Rattle.machine.specs.Calls.{start, step, release, slot}
 use Rattle.machine.specs.Play.{play}
 use Rattle.machine.specs.InTime.{isSlot}
-use Rattle.machine.specs.Cases.{tableOf, releases, allReleased, session}
+use Rattle.tasks.specs.Written.{tableOf}
+use Rattle.machine.specs.Cases.{releases, allReleased, session}
 use Rattle.machine.specs.declared.machine.Machine.{Machine}
 use Rattle.machine.specs.declared.answer.Answer.{Answer}
 use Rattle.machine.specs.declared.call.Call.{Call}

@@ -3,7 +3,7 @@
 use Prim.Native.Nat.{ℕ}
 use mathlib.Core.Bool.{Bool, _&&_}
 use mathlib.Core.List.{List, [], _∷_}
-use Rattle.cores.specs.Examples.{sameNumbers}
+use Rattle.laws.specs.Examples.{sameNumbers}
 use Rattle.machine.specs.Cases.{Line, slotLines, sameLines, session, line}
 use Rattle.machine.specs.Examples.{runnerCounts, many}
 

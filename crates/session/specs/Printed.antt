@@ -6,7 +6,8 @@ use Rattle.text.specs.Output.{numbersLine}
 use Rattle.machine.specs.Mask.{mask}
 use Rattle.machine.specs.Play.{Entry}
 use Rattle.machine.specs.InTime.{isSlot}
-use Rattle.machine.specs.Cases.{task, session}
+use Rattle.tasks.specs.Written.{task}
+use Rattle.machine.specs.Cases.{session}
 use Rattle.machine.specs.declared.answer.Report.{Report}
 
 -- "For each slot it prints the slot's number and the tasks that ran, finished and were late, each as the sum of 2 to the power (task number − 1)"

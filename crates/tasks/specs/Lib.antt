@@ -5,3 +5,4 @@ pub mod Table
 pub mod Check
 pub mod Outcome
 pub mod TaskSet
+pub mod Written

@@ -1,4 +1,4 @@
--- A table's tasks as plain numbers, which the window test is about.
+-- A table's tasks as plain numbers, which the admission tests are about.
 use Prim.Native.Nat.{ℕ}
 use mathlib.Core.List.{List}
 use lib.ListN.{getD}

@@ -9,8 +9,8 @@ use Rattle.tasks.proofs.Small.{checked-below}
 use Rattle.reader.specs.declared.Reading.{Reading}
 use Rattle.reader.specs.Reading.{reading}
 use Rattle.reader.proofs.Small.{reading-below}
-use Rattle.judge.specs.Judge.{valuesOf}
-use Rattle.judge.proofs.Outcome.{outcome-is, refused-outcome, judged-values}
+use Rattle.judge.specs.SlackJudge.{admissionValuesOf}
+use Rattle.judge.proofs.Admitted.{admission-outcome, refused-admission, judged-admission}
 use Rattle.host.specs.Host.{answerNumber, answerAfter, hostAnswer}
 use borrow.Author.Needs.{needs}
 use Rattle.host.proofs.edzl_admit.Statement.{statement}
@@ -28,7 +28,7 @@ told :
     (c : tie.After-verdict)
     → checked (c .before .before .before .before .before .before .read .result .table) (c .before .before .before .before .before .before .before .before .args .cores)
     ≡ Refused (c .verdict .given .0 .0) (c .verdict .given .0 .1 .0)
-told c = refused-outcome _ _ _ _ (sym (ap valuesOf (c .verdict .given .1)) ∙ c .before .before .judge .ensures)
+told c = refused-admission _ _ _ _ (sym (ap admissionValuesOf (c .verdict .given .1)) ∙ c .before .before .admit .ensures)
 
 add-result : tie.Need-add-result
 add-result c = omega (arith, small (c .before))
@@ -45,15 +45,15 @@ unfolding hostAnswer answerAfter answerNumber
 returns-2 c =
     let v = c .before in
     let d = v .before .before .before .before in
-    rw (← d .before .before .read .ensures, d .enum-told .given .1, outcome-is (d .before .before .read .result .table) (d .before .before .before .before .args .cores), told v)
+    rw (← d .before .before .read .ensures, d .enum-told .given .1, admission-outcome (d .before .before .read .result .table) (d .before .before .before .before .args .cores), told v)
 
 returns-3 : tie.Need-returns-3
 unfolding hostAnswer answerAfter answerNumber
 returns-3 c =
     let v = c .before in
     let d = v .before .before .before .before in
-    let j = judged-values _ _ _ _ (sym (ap valuesOf (v .verdict2 .given .1)) ∙ v .before .before .judge .ensures) in
-    rw (← d .before .before .read .ensures, d .enum-told .given .1, j .outcome, j .admits-is) (bool-byte (v .verdict2 .given .0 .1 .0))
+    let j = judged-admission _ _ _ (sym (ap admissionValuesOf (v .verdict2 .given .1)) ∙ v .before .before .admit .ensures) in
+    rw (← d .before .before .read .ensures, d .enum-told .given .1, j .outcome, j .admits-is) (bool-byte (v .verdict2 .given .0 .0))
 
 pub edzl-admit-spec : {M : Type 1} → statement M
 edzl-admit-spec =

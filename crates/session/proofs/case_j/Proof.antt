@@ -6,7 +6,7 @@ use lib.ListN.{set}
 use Rattle.tasks.specs.declared.task.Task.{Task}
 use Rattle.tasks.specs.declared.table.Table.{Table}
 use Rattle.tasks.specs.Table.{emptyTable}
-use Rattle.machine.specs.Cases.{task, tableOf}
+use Rattle.tasks.specs.Written.{task, tableOf}
 use Rattle.machine.proofs.Computing.{computing}
 use Rattle.session.specs.Printed.{caseJ}
 use Rattle.session.proofs.Playing.{session-lines}

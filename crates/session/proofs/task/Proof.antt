@@ -1,6 +1,6 @@
 -- `task` meets its contract.
 use mathlib.Core.Path.{refl}
-use Rattle.machine.specs.Cases.{task}
+use Rattle.tasks.specs.Written.{task}
 use Rattle.session.proofs.task.Statement.{statement}
 use Rattle.session.proofs.task.Tie as tie
 

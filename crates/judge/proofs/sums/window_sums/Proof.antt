@@ -1,4 +1,4 @@
--- `window_sums` meets its contract. The invariant: each sum is taken over the tasks before i.
+-- `window_sums` meets its contract. The invariant: each sum is taken over the tasks before i. At the end it is the sum over the others and the own part.
 use Prim.Native.Nat.{ℕ, _-_, _*_, _≤_, _<_}
 use native.Mathlib.Nat.{le-trans}
 use native.Mathlib.Numerals.{add-one}
@@ -7,22 +7,26 @@ use mathlib.Core.Path.{_≡_, _∙_}
 use lib.ListN.{length, getD}
 use Rattle.edzl.specs.Sums.{sumTo}
 use Rattle.edzl.proofs.SumLaws.{sum-bound}
-use Rattle.judge.proofs.OwnPart.{part}
+use Rattle.judge.specs.Listed.{listed}
+use Rattle.judge.proofs.OwnPart.{part, window-sum-with-own}
+use Rattle.judge.proofs.Listed.{well-listed}
 use Rattle.judge.proofs.sums.window_sums.Statement.{statement}
 use Rattle.judge.proofs.sums.window_sums.Tie as tie
 
 abbrev Inv-loop : tie.InvT-loop
-Inv-loop periods budgets deadlines sums₀ count i₀ sums i =
+Inv-loop periods budgets deadlines inverses sums₀ count i₀ sums i =
     (i ≤ count)
     × (length sums ≡ 32)
-    × ((k : ℕ) → k < count → getD sums k 0 ≡ sumTo i (λ j. part (getD periods j 0) (getD budgets j 0) (getD deadlines k 0) (getD budgets k 0)))
+    × ((k : ℕ) →
+    k < count →
+    getD sums k 0 ≡ sumTo i (λ j. part (getD periods j 0) (getD budgets j 0) (getD deadlines k 0) (getD deadlines k 0) (getD budgets k 0)))
 
 abbrev μ-loop : tie.MeasureT-loop
-μ-loop periods budgets deadlines sums₀ count i₀ sums i = count - i
+μ-loop periods budgets deadlines inverses sums₀ count i₀ sums i = count - i
 
 loop-holds : tie.Need-loop-holds Inv-loop μ-loop
 unfolding sumTo
-loop-holds c = (omega arith, c .pre .0 .1, c .pre .1 .1)
+loop-holds c = (omega arith, c .pre .0 .1, c .pre .1 .1 .1)
 
 -- A sum over at most 32 tasks.
 sum-small : (l : tie.At-loop Inv-loop μ-loop) (k : ℕ) → k < l .before .args .count → getD (l .loop .sums) k 0 ≤ 32 * 1_000_000
@@ -32,25 +36,29 @@ sum-small l k h =
 
 add-parts-requires : tie.Need-add-parts-requires Inv-loop μ-loop
 add-parts-requires c κs =
-    let l = c .before .before .before .before in
+    let l = c .before .before .before .before .before in
     let range = l .before .pre .1 .0 in
     let own = range (l .loop .i) (omega arith) in
-    (omega arith, (omega arith, (λ k h. omega (arith, range k h), (λ k h. omega (arith, range k h), sum-small l))))
+    let inverse = l .before .pre .1 .1 .0 (l .loop .i) (omega arith) in
+    ((omega arith, omega arith, omega arith, inverse), (omega arith, (λ k h. omega (arith, range k h), (λ k h. omega (arith, range k h), sum-small l))))
 
 loop-again : tie.Need-loop-again Inv-loop μ-loop
 unfolding sumTo
 loop-again c =
-    let l = c .before .before .before .before .before in (
+    let l = c .before .before .before .before .before .before in (
       omega arith,
       c .add-parts .ensures .0,
       λ k h. rw (add-one (l .loop .i)) (omega (arith, c .add-parts .ensures .1 k h, l .loop .inv .2 k h)),
     )
 
 returns : tie.Need-returns Inv-loop μ-loop
-returns c k h =
+returns c =
     let l = c .before in
-    let e : l .loop .i ≡ l .before .args .count = omega arith in
-    l .loop .inv .2 k h ∙ rw e
+    let a = l .before .args in
+    let e : l .loop .i ≡ a .count = omega arith in
+    let set = listed (a .periods .now) (a .budgets .now) (a .deadlines .now) (a .count) in
+    let well = well-listed (a .count) (a .periods .now) (a .budgets .now) (a .deadlines .now) (l .before .pre .1 .0) in
+    (l .loop .inv .1, λ k h. l .loop .inv .2 k h ∙ rw e (window-sum-with-own set well k h))
 
 pub window-sums-spec : {M : Type 1} → statement M
 window-sums-spec =
@@ -59,6 +67,8 @@ window-sums-spec =
     Inv-loop
     μ-loop
     loop-holds
+    (λ c. omega arith)
+    (λ c. omega arith)
     (λ c. omega arith)
     (λ c. omega arith)
     (λ c. omega arith)

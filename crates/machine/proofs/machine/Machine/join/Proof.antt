@@ -4,7 +4,7 @@ use mathlib.Core.Bool.{true}
 use borrow.Author.Tests.{not-true, not-false, le-leb, lt-leb}
 use Rattle.laws.proofs.Booleans.{was-true, was-false}
 use Rattle.tasks.specs.Task.{inRange}
-use Rattle.judge.specs.Judge.{refusedValues, valuesOf, judged}
+use Rattle.judge.specs.SlackJudge.{admissionValuesOf, admission}
 use Rattle.machine.specs.declared.machine.Machine.{Machine}
 use Rattle.machine.specs.Sound.{sound}
 use Rattle.machine.specs.Calls.{withJoined, joinAfter, join}
@@ -21,9 +21,9 @@ in-range c = was-true (c .before .in-range .ensures) (c .if2 .left)
 
 -- past refusal 12 the verdict on the longer table decides
 by-verdict :
-    (c : tie.After-judge)
+    (c : tie.After-admit)
     → let a = c .before .before .before .before .before .before .before .before .before .args in
-    let verdict = valuesOf (c .judge .result) in
+    let verdict = admissionValuesOf (c .admit .result) in
     join (a .self) (a .task) ≡ joinAfter (verdict .outcome) (verdict .admits) (a .self) (a .task)
 unfolding join withJoined
 by-verdict c =
@@ -31,8 +31,8 @@ by-verdict c =
     let e = w .before in
     let d = e .before .before in
     let cores = d .before .before .before .before .args .self .cores in
-    let longer = ap (λ (m : Machine). judged (m .table) cores) (w .with-joined .ensures) in
-    rw (is-sound (d .before .before), in-range d, lt-leb _ _ (e .if3 .left), sym (c .judge .ensures ∙ longer))
+    let longer = ap (λ (m : Machine). admission (m .table) cores) (w .with-joined .ensures) in
+    rw (is-sound (d .before .before), in-range d, lt-leb _ _ (e .if3 .left), sym (c .admit .ensures ∙ longer))
 
 returns : tie.Need-returns
 unfolding join
@@ -51,24 +51,24 @@ returns-3 c =
     rw (is-sound (d .before .before), in-range d, le-leb _ _ (c .before .if3 .taken)) (c .refused3 .ensures)
 
 returns-4 : tie.Need-returns-4
-unfolding joinAfter valuesOf refusedValues
+unfolding joinAfter admissionValuesOf
 returns-4 c =
     let o = c .before in
     let v = o .before in
     rw (by-verdict (v .before .before), c .none .ensures, o .outcome .ensures, v .enum-told .given .1)
 
 returns-5 : tie.Need-returns-5
-unfolding joinAfter valuesOf
+unfolding joinAfter admissionValuesOf
 returns-5 c =
     let v = c .before .before .before in
-    rw (by-verdict (v .before .before), v .verdict .given .1, not-true (v .verdict .given .0 .1 .0) (c .before .if4 .taken)) (c .refused4 .ensures)
+    rw (by-verdict (v .before .before), v .verdict .given .1, not-true (v .verdict .given .0 .0) (c .before .if4 .taken)) (c .refused4 .ensures)
 
 returns-6 : tie.Need-returns-6
-unfolding joinAfter valuesOf
+unfolding joinAfter admissionValuesOf
 returns-6 c =
     let v = c .before .before .before in
     let j = v .before .before in
-    rw (by-verdict j, v .verdict .given .1, not-false (v .verdict .given .0 .1 .0) (c .before .if4 .left), ← j .before .before .with-joined .ensures) (c .done .ensures)
+    rw (by-verdict j, v .verdict .given .1, not-false (v .verdict .given .0 .0) (c .before .if4 .left), ← j .before .before .with-joined .ensures) (c .done .ensures)
 
 pub join-spec : {M : Type 1} → statement M
 join-spec =

@@ -1,0 +1,20 @@
+-- The examples of the rounds all hold: antt computes every entry of the list. Others cite `computingTests`, what such a test looks through of both tests, in one
+-- name, and `slack-examples-hold`.
+use mathlib.Core.Path.{_≡_, refl}
+use mathlib.Core.Bool.{Bool, true}
+use Rattle.laws.specs.Lists.{replaced}
+use Rattle.laws.specs.Examples.{sameNumbers, allTrue}
+use Rattle.edzl.specs.Sums.{sumTo, bit}
+use Rattle.edzl.specs.Window.{interference, spare, others, noSlack, windowSum, mayTurnUrgent, countUrgent, admitted}
+use Rattle.edzl.specs.Slack.{perTask, ofTask, roundSums, reaches, newSlack, noRound, nextRound, noneChanges, roundsFrom, allRounds, countReaching, slackAdmits}
+use Rattle.edzl.specs.SlackExamples.{task, setOf, slackIs, windowRefuses, lastIs, fourTasks, cutTasks, slackExamples}
+
+unfoldable pub computingTests : Bool
+unfolding
+    replaced sumTo bit interference spare others noSlack windowSum mayTurnUrgent countUrgent admitted
+    perTask ofTask roundSums reaches newSlack noRound nextRound noneChanges roundsFrom allRounds countReaching slackAdmits
+computingTests = true
+
+pub slack-examples-hold : allTrue slackExamples ≡ true
+unfolding computingTests sameNumbers allTrue task setOf slackIs windowRefuses lastIs fourTasks cutTasks slackExamples
+slack-examples-hold = refl

@@ -1,0 +1,199 @@
+-- The rounds of the slack test, counted on past the last change. Others cite: `roundAfter` and `slackAfter`, the round of a number and its slacks;
+-- `new-none` and `new-some`, a new slack by whether the sum reaches; `new-ahead`, by which a job is ahead by it; `LastRound` with `last-round`, that all rounds come to the round of their number; `round-one`, that
+-- the sums of round 1 are the window test's; and the theorems `slacks-fit`, `slacks-grow`, `slacks-longer`, `window-admits`, and `few-urgent`, what an
+-- admitted set has.
+use Prim.Native.Nat.{ℕ, zero, suc, _+_, _*_, _-_, _/_, _≤_, _<_}
+use mathlib.Core.Path.{_≡_, refl, sym, ap, _∙_}
+use mathlib.Core.Bool.{Bool, true, false}
+use native.Mathlib.Nat.{le-refl, le-trans, le-of-eq, mul-comm, le-div-iff-mul-le, div-mul-le-self}
+use native.Mathlib.Omega.{arith}
+use lib.ListN.{length-replicate}
+use borrow.Author.Tests.{le-leb, leb-true, lt-leb}
+use Rattle.laws.proofs.CaseSplits.{by-order, by-test}
+use Rattle.laws.proofs.Replaced.{replaced-at}
+use Rattle.edzl.specs.TaskSet.{TaskSet}
+use Rattle.edzl.specs.Sums.{sumTo, bit}
+use Rattle.edzl.specs.Window.{spare, noSlack, windowSum, mayTurnUrgent, countUrgent, admitted}
+use Rattle.edzl.specs.Slack.{perTask, ofTask, roundSums, reaches, newSlack, Rounds, noRound, nextRound, roundsFrom, allRounds, countReaching, slackAdmits}
+use Rattle.edzl.proofs.WellFormed.{WellFormed}
+use Rattle.edzl.proofs.SumLaws.{sum-same, sum-monotone, bit-monotone}
+use Rattle.edzl.proofs.WindowLaws.{SameTask, same-task, sum-of-same, sum-grows, admitted-few}
+
+-- The round of a number, made whether or not a slack changed in the one before; and its slack of each task.
+unfoldable pub roundAfter : TaskSet → (m r : ℕ) → Rounds
+roundAfter tasks m zero = noRound tasks
+roundAfter tasks m (suc r) = nextRound tasks m (roundAfter tasks m r)
+
+unfoldable pub slackAfter : TaskSet → (m r : ℕ) → ℕ → ℕ
+slackAfter tasks m r = ofTask (roundAfter tasks m r .slacks)
+
+-- A new slack, by whether the sum reaches.
+module _ (m A sum : ℕ) where
+  pub new-none : m * A ≤ sum → newSlack m A sum ≡ 0
+  unfolding newSlack reaches
+  new-none h = rw (le-leb (m * A) sum h)
+
+  pub new-some : sum < m * A → newSlack m A sum ≡ A - sum / m
+  unfolding newSlack reaches
+  new-some h = rw (lt-leb (m * A) sum h)
+
+  -- With no core every sum reaches.
+  some-cores : sum < m * A → 0 < m
+  some-cores h =
+      by-order 1 m
+      (λ some. some)
+      (λ none.
+      let e : m ≡ 0 = omega arith in
+      let nothing : m * A ≡ 0 = rw e (omega arith) in
+      absurd (omega arith))
+
+  new-fits : newSlack m A sum ≤ A
+  new-fits = by-order (m * A) sum (λ h. rw (new-none h) (omega arith)) (λ h. rw (new-some h) (omega arith))
+
+-- It is no larger where the sum is no smaller.
+new-antitone : (m A sum sum' : ℕ) → sum ≤ sum' → newSlack m A sum' ≤ newSlack m A sum
+new-antitone m A sum sum' l =
+    by-order (m * A) sum'
+    (λ h. rw (new-none m A sum' h) (omega arith))
+    (λ h.
+    let quotients : sum / m ≤ sum' / m = le-div-iff-mul-le (some-cores m A sum' h) .1 (omega (arith, div-mul-le-self sum m)) in
+    rw (new-some m A sum' h, new-some m A sum (omega arith)) (omega arith))
+
+-- A job that is in time and has lost at most what the sum gives for each core is ahead by the new slack.
+pub new-ahead : (m A sum budget left : ℕ) → budget ≤ left → m * ((A + budget) - left) ≤ sum → budget + newSlack m A sum ≤ left
+new-ahead m A sum budget left in-time paid =
+    by-order (m * A) sum
+    (λ h. rw (new-none m A sum h) (omega arith))
+    (λ h.
+    let lost : (A + budget) - left ≤ sum / m =
+    le-div-iff-mul-le (some-cores m A sum h) .1 (omega (arith, mul-comm m ((A + budget) - left)))
+    in
+    rw (new-some m A sum h) (omega arith))
+
+-- The entry of a task of the set.
+pub of-listed : (tasks : TaskSet) (f : ℕ → ℕ) (k : ℕ) → k < tasks .count → ofTask (perTask tasks f) k ≡ f k
+unfolding ofTask perTask
+of-listed tasks f k h = replaced-at f _ 0 (tasks .count) k h (omega (arith, length-replicate {A = ℕ} (tasks .count) 0))
+
+module _ (tasks : TaskSet) (m : ℕ) where
+  pub slack-start : (i : ℕ) → i < tasks .count → slackAfter tasks m 0 i ≡ 0
+  unfolding slackAfter roundAfter noRound
+  slack-start i h = of-listed tasks (λ k. 0) i h
+
+  -- The sum of a task in round r + 1 is that of the window test with the slacks of round r.
+  pub sum-next : (r k : ℕ) → k < tasks .count → ofTask (roundAfter tasks m (suc r) .sums) k ≡ windowSum tasks (slackAfter tasks m r) k
+  unfolding slackAfter roundAfter nextRound roundSums
+  sum-next r k h = of-listed tasks _ k h
+
+  pub slack-next : (r i : ℕ) → i < tasks .count →
+      slackAfter tasks m (suc r) i ≡ newSlack m (spare tasks i) (windowSum tasks (slackAfter tasks m r) i)
+  unfolding slackAfter roundAfter nextRound
+  slack-next r i h = of-listed tasks _ i h ∙ ap (λ (sum : ℕ). newSlack m (spare tasks i) sum) (sum-next r i h)
+
+  -- Slacks are never above the spare.
+  pub slacks-fit : (r i : ℕ) → i < tasks .count → slackAfter tasks m r i ≤ spare tasks i
+  slacks-fit zero i h = rw (slack-start i h) (omega arith)
+  slacks-fit (suc r) i h = rw (slack-next r i h) (new-fits m (spare tasks i) _)
+
+-- A longer set has slacks no larger in each round.
+module _ (shorter longer : TaskSet) (well : WellFormed longer) (longer-is : shorter .count ≤ longer .count) where
+  module _ (same : (i : ℕ) → i < shorter .count → SameTask shorter longer i) (m : ℕ) where
+    spare-same : (i : ℕ) → i < shorter .count → spare longer i ≡ spare shorter i
+    unfolding spare
+    spare-same i h = rw (same i h .same-deadline, same i h .same-budget)
+
+    -- A round keeps slacks that are no larger.
+    next-longer : (r r' : ℕ) →
+        ((i : ℕ) → i < shorter .count → slackAfter longer m r' i ≤ slackAfter shorter m r i) →
+        (i : ℕ) → i < shorter .count → slackAfter longer m (suc r') i ≤ slackAfter shorter m (suc r) i
+    next-longer r r' no-larger i h =
+        rw (slack-next longer m r' i (omega arith), slack-next shorter m r i h, spare-same i h)
+        (new-antitone m (spare shorter i) _ _
+        (sum-grows shorter longer well longer-is same (slackAfter shorter m r) (slackAfter longer m r') no-larger i h))
+
+    pub slacks-longer : (r i : ℕ) → i < shorter .count → slackAfter longer m r i ≤ slackAfter shorter m r i
+    slacks-longer zero i h = rw (slack-start longer m i (omega arith)) (omega arith)
+    slacks-longer (suc r) i h = next-longer r r (slacks-longer r) i h
+
+module _ (tasks : TaskSet) (well : WellFormed tasks) (m : ℕ) where
+  -- Slacks only grow from round to round.
+  pub slacks-grow : (r i : ℕ) → i < tasks .count → slackAfter tasks m r i ≤ slackAfter tasks m (suc r) i
+  slacks-grow zero i h = rw (slack-start tasks m i h) (omega arith)
+  slacks-grow (suc r) i h = next-longer tasks tasks well (le-refl _) (λ i h. same-task tasks i) m (suc r) r (slacks-grow r) i h
+
+  -- The sum of a task with the slacks of a round is at most that with none.
+  sum-within : (r k : ℕ) → k < tasks .count → windowSum tasks (slackAfter tasks m r) k ≤ windowSum tasks noSlack k
+  unfolding noSlack
+  sum-within r k h =
+      sum-grows tasks tasks well (le-refl _) (λ i l. same-task tasks i) (slackAfter tasks m r) noSlack (λ i l. omega arith) k h
+
+  -- No more tasks are counted with the slacks of a round than the window test counts.
+  count-within : (r : ℕ) → countUrgent tasks (slackAfter tasks m r) m ≤ countUrgent tasks noSlack m
+  unfolding countUrgent mayTurnUrgent
+  count-within r =
+      sum-monotone _ _ (tasks .count)
+      (λ k h. bit-monotone _ _ (λ e. le-leb (m * spare tasks k) (windowSum tasks noSlack k) (le-trans (leb-true _ _ e) (sum-within r k h))))
+
+-- All rounds of a set come to one round, the last: the round of its number, which is at most 64.
+pub record LastRound (tasks : TaskSet) (m : ℕ) : Type 0 where
+  pub before : ℕ
+  pub below : before < 64
+  pub is : allRounds tasks m ≡ roundAfter tasks m (suc before)
+
+module _ (tasks : TaskSet) (m : ℕ) where
+  pub made-is : (r : ℕ) → roundAfter tasks m r .made ≡ r
+  unfolding roundAfter noRound nextRound
+  made-is zero = refl
+  made-is (suc r) = ap suc (made-is r)
+
+  -- These rounds are the round of r + 1 or a later one, of at most so many more.
+  unfoldable Ends : (more r : ℕ) → Rounds → Type 0
+  Ends more r rounds = (r' : ℕ) × (r' ≤ r + more) × (rounds ≡ roundAfter tasks m (suc r'))
+
+  later : (more r : ℕ) (rounds : Rounds) → Ends more (suc r) rounds → Ends (suc more) r rounds
+  unfolding Ends
+  later more r rounds (r', within, is) = (r', omega arith, is)
+
+  ends : (more : ℕ) (ended : Bool) (r : ℕ) → Ends more r (roundsFrom tasks m more ended (roundAfter tasks m (suc r)))
+  unfolding Ends roundsFrom roundAfter
+  ends zero ended r = (r, omega arith, refl)
+  ends (suc more) true r = (r, omega arith, refl)
+  ends (suc more) false r = later more r _ (ends more _ (suc r))
+
+  -- The first round is always made.
+  from-none : (more : ℕ) → Ends more 0 (roundsFrom tasks m (suc more) false (noRound tasks))
+  unfolding roundsFrom roundAfter
+  from-none more = ends more _ 0
+
+  all-end : Ends 63 0 (allRounds tasks m)
+  unfolding allRounds
+  all-end = from-none 63
+
+  pub last-round : LastRound tasks m
+  unfolding Ends
+  last-round = let (r, within, is) = all-end in record { before = r; below = omega arith; is = is }
+
+  -- The sums of the last round count the tasks that may turn urgent with the slacks of the round before.
+  pub count-last : countReaching tasks m (allRounds tasks m .sums) ≡ countUrgent tasks (slackAfter tasks m (last-round .before)) m
+  unfolding countReaching countUrgent mayTurnUrgent reaches
+  count-last =
+      rw (last-round .is)
+      (sum-same _ _ (tasks .count) (λ k h. rw (sum-next tasks m (last-round .before) k h)))
+
+  -- An admitted set has, with the slacks of the last round but one, at most m tasks that may turn urgent.
+  pub few-urgent : slackAdmits tasks m ≡ true → countUrgent tasks (slackAfter tasks m (last-round .before)) m ≤ m
+  unfolding slackAdmits
+  few-urgent e = omega (arith, leb-true (countReaching tasks m (allRounds tasks m .sums)) m e, count-last)
+
+  -- The sums of round 1 are those of the window test.
+  pub round-one : (k : ℕ) → k < tasks .count → ofTask (roundAfter tasks m 1 .sums) k ≡ windowSum tasks noSlack k
+  unfolding noSlack
+  round-one k h = sum-next tasks m 0 k h
+      ∙ sum-of-same tasks tasks refl (λ i l. same-task tasks i) noSlack (slackAfter tasks m 0) (λ i l. slack-start tasks m i l) m k h
+
+-- What the window test admits, this one admits.
+pub window-admits : (tasks : TaskSet) (m : ℕ) → WellFormed tasks → admitted tasks m ≡ true → slackAdmits tasks m ≡ true
+unfolding slackAdmits
+window-admits tasks m well e =
+    le-leb (countReaching tasks m (allRounds tasks m .sums)) m
+    (omega (arith, count-last tasks m, count-within tasks well m (last-round tasks m .before), admitted-few tasks m e))
