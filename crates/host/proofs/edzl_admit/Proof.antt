@@ -1,7 +1,7 @@
 -- `edzl_admit` meets its contract.
 use Prim.Native.Nat.{_≤_}
 use native.Mathlib.Omega.{arith}
-use mathlib.Core.Path.{_≡_, sym, ap, _∙_}
+use mathlib.Core.Path.{_≡_, sym, ap, ap₂, _∙_}
 use Rattle.laws.proofs.Booleans.{bool-byte}
 use Rattle.tasks.specs.declared.outcome.Outcome.the-variants.{Refused}
 use Rattle.tasks.specs.Check.{checked}
@@ -52,8 +52,10 @@ unfolding hostAnswer answerAfter answerNumber
 returns-3 c =
     let v = c .before in
     let d = v .before .before .before .before in
+    let admitted = v .verdict2 .given .0 .0 in
     let j = judged-admission _ _ _ (sym (ap admissionValuesOf (v .verdict2 .given .1)) ∙ v .before .before .admit .ensures) in
-    rw (← d .before .before .read .ensures, d .enum-told .given .1, j .outcome, j .admits-is) (bool-byte (v .verdict2 .given .0 .0))
+    rw (← d .before .before .read .ensures, d .enum-told .given .1)
+    (bool-byte admitted ∙ sym (ap₂ answerNumber (j .outcome) (j .admits-is)))
 
 pub edzl-admit-spec : {M : Type 1} → statement M
 edzl-admit-spec =
