@@ -97,15 +97,19 @@ fn frames(random: &mut Random, tasks: usize) -> Vec<Task> {
     (0..tasks).map(frame).collect()
 }
 
-/// Half as many cores as tasks, rounded up.
-pub fn cores_for(tasks: usize) -> u32 {
+// Half as many cores as tasks, rounded up.
+fn half_as_many(tasks: usize) -> u32 {
     tasks.div_ceil(2) as u32
 }
 
 // Each table twice: with the share at its boundary, and with the one before.
-fn pairs(tasks: usize, tables: usize, boundary: fn(&[Task], u32) -> Option<u32>) -> Vec<Case> {
+fn pairs(
+    tasks: usize,
+    cores: u32,
+    tables: usize,
+    boundary: fn(&[Task], u32) -> Option<u32>,
+) -> Vec<Case> {
     let mut random = Random(tasks as u64);
-    let cores = cores_for(tasks);
     let mut cases = Vec::new();
     while cases.len() < 2 * tables {
         let frames = frames(&mut random, tasks);
@@ -129,19 +133,18 @@ fn first_refused(frames: &[Task], test: impl Fn(&[Task]) -> bool) -> Option<u32>
 
 /// Tables of so many tasks: each twice, just admitted by the window test and just not.
 pub fn near_window_boundary(tasks: usize, tables: usize) -> Vec<Case> {
-    pairs(tasks, tables, |frames, cores| {
+    pairs(tasks, half_as_many(tasks), tables, |frames, cores| {
         first_refused(frames, |tasks| window_test(tasks, cores))
     })
 }
 
 /// Tables of so many tasks: each twice, just admitted by the slack test and just not. The window
-/// test admits neither. None exist where the tasks are at most one more than the cores: where the
-/// window test refuses, all may turn urgent, and every slack stays 0.
+/// test admits neither. None exist where the tasks are at most one more than the cores, since a
+/// refusal by the window test then means that all sums reach and every slack stays 0: so 3 tasks
+/// are tested on 1 core.
 pub fn near_slack_boundary(tasks: usize, tables: usize) -> Vec<Case> {
-    if tasks <= cores_for(tasks) as usize + 1 {
-        return Vec::new();
-    }
-    pairs(tasks, tables, |frames, cores| {
+    let cores = half_as_many(tasks).min(tasks as u32 - 2);
+    pairs(tasks, cores, tables, |frames, cores| {
         let share = first_refused(frames, |tasks| slack_test(tasks, cores).admitted)?;
         let sharper = !window_test(&with_shares(frames, share - 1), cores);
         sharper.then_some(share)

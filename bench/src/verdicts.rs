@@ -1,6 +1,6 @@
 //! Verdicts per second: the proved entry against plain Rust and plain C.
 
-use crate::texts::{Case, cores_for, cut_off, near_slack_boundary, near_window_boundary, refused};
+use crate::texts::{Case, cut_off, near_slack_boundary, near_window_boundary, refused};
 use crate::{plain, timing};
 use std::hint::black_box;
 
@@ -69,12 +69,20 @@ fn mean_rounds(cases: &[&Case]) -> f64 {
     cases.iter().map(rounds).sum::<f64>() / cases.len() as f64
 }
 
+// The cores of the texts, from the fewest to the most.
+fn cores_of(cases: &[&Case]) -> String {
+    let mut cores: Vec<String> = cases.iter().map(|case| case.cores.to_string()).collect();
+    cores.sort();
+    cores.dedup();
+    cores.join("-")
+}
+
 fn line(tasks: usize, group: &str, cases: &[&Case]) {
     compare(cases);
     let [proved, rust, c] = times(cases);
     println!(
         "{tasks:>5} {:>5} {group:>6} {:>6.2} {proved:>9.0} {rust:>9.0} {c:>9.0} {:>12.0} {:>9.2}",
-        cores_for(tasks),
+        cores_of(cases),
         mean_rounds(cases),
         1e9 / proved,
         rust.min(c) / proved
@@ -87,10 +95,6 @@ fn lines(tasks: usize) {
     let slack = near_slack_boundary(tasks, TABLES);
     let [window, slack]: [Vec<&Case>; 2] = [&window, &slack].map(|cases| cases.iter().collect());
     line(tasks, "window", &window);
-    if slack.is_empty() {
-        println!("{tasks:>5} {:>5}  slack   none", cores_for(tasks));
-        return;
-    }
     line(tasks, "slack", &slack);
     line(tasks, "both", &[window, slack].concat());
 }

@@ -1,8 +1,7 @@
 -- Examples of document 02's change 4, as entries of a list of computed tests: `allTrue` of crate laws is the test, and the theorem stands in proofs/ExamplesHold.antt.
 use Prim.Native.Nat.{ℕ}
 use mathlib.Core.List.{List, [], _∷_, _++_}
-use mathlib.Core.Bool.{Bool, true, false, not, _&&_}
-use lib.Dec.{eqb}
+use mathlib.Core.Bool.{Bool, not}
 use lib.ListN.{length, take, replicate}
 use Rattle.laws.specs.Examples.{sameNumbers}
 use Rattle.cores.specs.Assign.{assignment}

@@ -12,6 +12,7 @@ pub mod Join
 pub mod Choice
 pub mod Slot
 pub mod SlotKeeps
+pub mod SlackLaws
 pub mod SlackRounds
 pub mod Safe
 pub mod SlackSame

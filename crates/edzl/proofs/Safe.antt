@@ -17,7 +17,8 @@ use Rattle.edzl.proofs.Join.{Joined, SlackShrinks, join-keeps}
 use Rattle.edzl.proofs.Choice.{UrgentRun, urgent-runs}
 use Rattle.edzl.proofs.Slot.{Slotted}
 use Rattle.edzl.proofs.SlotKeeps.{slot-keeps, owes-in-time}
-use Rattle.edzl.proofs.SlackRounds.{slackAfter, slack-start, slack-next, new-ahead, slacks-fit, slacks-longer, last-round, few-urgent}
+use Rattle.edzl.proofs.SlackLaws.{new-ahead}
+use Rattle.edzl.proofs.SlackRounds.{slackAfter, slack-start, slack-next, slacks-fit, slacks-longer, last-round, few-urgent}
 
 -- The invariant with the slacks of each round.
 abbrev pub Safe : TaskSet → (m : ℕ) → Jobs → Type 0

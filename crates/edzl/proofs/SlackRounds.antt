@@ -1,22 +1,21 @@
--- The rounds of the slack test, counted on past the last change. Others cite: `roundAfter` and `slackAfter`, the round of a number and its slacks;
--- `new-none` and `new-some`, a new slack by whether the sum reaches; `new-ahead`, by which a job is ahead by it; `LastRound` with `last-round`, that all rounds come to the round of their number; `round-one`, that
--- the sums of round 1 are the window test's; and the theorems `slacks-fit`, `slacks-grow`, `slacks-longer`, `window-admits`, and `few-urgent`, what an
--- admitted set has.
-use Prim.Native.Nat.{ℕ, zero, suc, _+_, _*_, _-_, _/_, _≤_, _<_}
-use mathlib.Core.Path.{_≡_, refl, sym, ap, _∙_}
+-- The rounds of the slack test, counted on past the last change. Others cite: `roundAfter` and `slackAfter`, the round of a number and its slacks, with
+-- `slack-start`, `sum-next` and `slack-next`; `LastRound` with `last-round`, that all rounds come to the round of their number, and `made-is`; `round-one`,
+-- that the sums of round 1 are the window test's; and the theorems `slacks-fit`, `slacks-longer`, `slacks-grow`, `few-urgent`, what an admitted set has, and
+-- `window-admits`.
+use Prim.Native.Nat.{ℕ, zero, suc, _+_, _*_, _-_, _≤_, _<_}
+use mathlib.Core.Path.{_≡_, refl, ap, _∙_}
 use mathlib.Core.Bool.{Bool, true, false}
-use native.Mathlib.Nat.{le-refl, le-trans, le-of-eq, mul-comm, le-div-iff-mul-le, div-mul-le-self}
+use native.Mathlib.Nat.{le-refl, le-trans}
 use native.Mathlib.Omega.{arith}
 use lib.ListN.{length-replicate}
-use borrow.Author.Tests.{le-leb, leb-true, lt-leb}
-use Rattle.laws.proofs.CaseSplits.{by-order, by-test}
+use borrow.Author.Tests.{le-leb, leb-true}
 use Rattle.laws.proofs.Replaced.{replaced-at}
 use Rattle.edzl.specs.TaskSet.{TaskSet}
-use Rattle.edzl.specs.Sums.{sumTo, bit}
 use Rattle.edzl.specs.Window.{spare, noSlack, windowSum, mayTurnUrgent, countUrgent, admitted}
 use Rattle.edzl.specs.Slack.{perTask, ofTask, roundSums, reaches, newSlack, Rounds, noRound, nextRound, roundsFrom, allRounds, countReaching, slackAdmits}
 use Rattle.edzl.proofs.WellFormed.{WellFormed}
 use Rattle.edzl.proofs.SumLaws.{sum-same, sum-monotone, bit-monotone}
+use Rattle.edzl.proofs.SlackLaws.{new-fits, new-antitone}
 use Rattle.edzl.proofs.WindowLaws.{SameTask, same-task, sum-of-same, sum-grows, admitted-few}
 
 -- The round of a number, made whether or not a slack changed in the one before; and its slack of each task.
@@ -27,51 +26,8 @@ roundAfter tasks m (suc r) = nextRound tasks m (roundAfter tasks m r)
 unfoldable pub slackAfter : TaskSet → (m r : ℕ) → ℕ → ℕ
 slackAfter tasks m r = ofTask (roundAfter tasks m r .slacks)
 
--- A new slack, by whether the sum reaches.
-module _ (m A sum : ℕ) where
-  pub new-none : m * A ≤ sum → newSlack m A sum ≡ 0
-  unfolding newSlack reaches
-  new-none h = rw (le-leb (m * A) sum h)
-
-  pub new-some : sum < m * A → newSlack m A sum ≡ A - sum / m
-  unfolding newSlack reaches
-  new-some h = rw (lt-leb (m * A) sum h)
-
-  -- With no core every sum reaches.
-  some-cores : sum < m * A → 0 < m
-  some-cores h =
-      by-order 1 m
-      (λ some. some)
-      (λ none.
-      let e : m ≡ 0 = omega arith in
-      let nothing : m * A ≡ 0 = rw e (omega arith) in
-      absurd (omega arith))
-
-  new-fits : newSlack m A sum ≤ A
-  new-fits = by-order (m * A) sum (λ h. rw (new-none h) (omega arith)) (λ h. rw (new-some h) (omega arith))
-
--- It is no larger where the sum is no smaller.
-new-antitone : (m A sum sum' : ℕ) → sum ≤ sum' → newSlack m A sum' ≤ newSlack m A sum
-new-antitone m A sum sum' l =
-    by-order (m * A) sum'
-    (λ h. rw (new-none m A sum' h) (omega arith))
-    (λ h.
-    let quotients : sum / m ≤ sum' / m = le-div-iff-mul-le (some-cores m A sum' h) .1 (omega (arith, div-mul-le-self sum m)) in
-    rw (new-some m A sum' h, new-some m A sum (omega arith)) (omega arith))
-
--- A job that is in time and has lost at most what the sum gives for each core is ahead by the new slack.
-pub new-ahead : (m A sum budget left : ℕ) → budget ≤ left → m * ((A + budget) - left) ≤ sum → budget + newSlack m A sum ≤ left
-new-ahead m A sum budget left in-time paid =
-    by-order (m * A) sum
-    (λ h. rw (new-none m A sum h) (omega arith))
-    (λ h.
-    let lost : (A + budget) - left ≤ sum / m =
-    le-div-iff-mul-le (some-cores m A sum h) .1 (omega (arith, mul-comm m ((A + budget) - left)))
-    in
-    rw (new-some m A sum h) (omega arith))
-
 -- The entry of a task of the set.
-pub of-listed : (tasks : TaskSet) (f : ℕ → ℕ) (k : ℕ) → k < tasks .count → ofTask (perTask tasks f) k ≡ f k
+of-listed : (tasks : TaskSet) (f : ℕ → ℕ) (k : ℕ) → k < tasks .count → ofTask (perTask tasks f) k ≡ f k
 unfolding ofTask perTask
 of-listed tasks f k h = replaced-at f _ 0 (tasks .count) k h (omega (arith, length-replicate {A = ℕ} (tasks .count) 0))
 

@@ -7,7 +7,7 @@ use native.Mathlib.Nat.{le-trans}
 use native.Mathlib.Omega.{arith}
 use borrow.Author.Tests.{leb-true}
 use Rattle.edzl.specs.TaskSet.{TaskSet}
-use Rattle.edzl.specs.Window.{interference, spare, others, noSlack, windowSum, mayTurnUrgent, countUrgent, admitted}
+use Rattle.edzl.specs.Window.{interference, spare, noSlack, windowSum, mayTurnUrgent, countUrgent, admitted}
 use Rattle.edzl.specs.Sums.{sumTo, bit}
 use Rattle.edzl.proofs.WellFormed.{WellFormed}
 use Rattle.edzl.proofs.InterferenceLaws.{monotone}

@@ -1,5 +1,5 @@
--- A table's numbers in flat lists. Others cite `ranges`, that the listed tasks are in range; `well-listed`; and by the sums of the lists, each with the own part, `urgent-listed`, what the window test counts, `window-listed` and
--- `admits-listed`, whether the slack test admits, and `rounds-listed`, the rounds made.
+-- A table's numbers in flat lists. Others cite `ranges`, that the listed tasks are in range; `well-listed`; by the sums of the lists, each with the own part,
+-- `urgent-listed`, what the window test counts, and `window-listed` and `admits-listed`, whether the slack test admits; and `rounds-listed`, the rounds made.
 use Prim.Native.Nat.{ℕ, _+_, _-_, _≤_, _<_}
 use mathlib.Core.Path.{_≡_, refl, sym, ap, _∙_}
 use mathlib.Core.Bool.{true}
@@ -11,7 +11,6 @@ use Rattle.tasks.specs.declared.task.Task.{Task}
 use Rattle.tasks.specs.Task.{inRange}
 use Rattle.tasks.specs.Table.{zeroTask}
 use Rattle.tasks.proofs.Range.{range-of}
-use Rattle.edzl.specs.TaskSet.{TaskSet}
 use Rattle.edzl.specs.Sums.{sumTo, bit}
 use Rattle.edzl.specs.Window.{noSlack, windowSum, mayTurnUrgent, countUrgent, admitted}
 use Rattle.edzl.specs.Slack.{ofTask, reaches, allRounds, countReaching, slackAdmits}

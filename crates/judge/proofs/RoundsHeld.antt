@@ -1,6 +1,6 @@
 -- What the arrays of the code hold after a round of the slack test: `AtRound`. Others cite `after-round`, by which a round leads to the next, with
 -- `none-before`, `first-sum`, `first-on` and `next-sum`; `still-on`, where another round follows; and `last-held`, where none does.
-use Prim.Native.Nat.{ℕ, zero, suc, _+_, _-_, _≤_, _<_}
+use Prim.Native.Nat.{ℕ, zero, suc, _+_, _-_, _<_}
 use native.Mathlib.Omega.{arith}
 use mathlib.Core.Path.{_≡_, refl, sym, ap, _∙_}
 use mathlib.Core.Bool.{Bool, true, false, not}
@@ -12,7 +12,7 @@ use borrow.Author.Tests.{eq-eqb, ne-eqb}
 use Rattle.edzl.specs.TaskSet.{TaskSet}
 use Rattle.edzl.specs.Sums.{sumTo, bit}
 use Rattle.edzl.specs.Window.{spare, noSlack, windowSum}
-use Rattle.edzl.specs.Slack.{ofTask, newSlack, Rounds, noRound, nextRound, noneChanges, roundsFrom, allRounds}
+use Rattle.edzl.specs.Slack.{ofTask, newSlack, noneChanges, roundsFrom, allRounds}
 use Rattle.edzl.proofs.WellFormed.{WellFormed}
 use Rattle.edzl.proofs.SumLaws.{sum-same}
 use Rattle.edzl.proofs.SlackRounds.{roundAfter, slackAfter, sum-next, slack-next, slacks-fit, made-is, round-one, slack-start}

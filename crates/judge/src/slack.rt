@@ -26,6 +26,19 @@ pub enum SlackVerdict {
 }
 
 impl SlackVerdict {
+    // Whether the test was carried out, or the refusal's number and place.
+    pub fn outcome(self) -> Outcome
+        ensures { λ r. ⌜ r ≡ slackValuesOf self .outcome ⌝ }
+    {
+        match self {
+            SlackVerdict::Judged {
+                rounds: _,
+                admitted: _,
+            } => Outcome::Done,
+            SlackVerdict::Refused { number, place } => Outcome::Refused { number, place },
+        }
+    }
+
     // The rounds made: 0 where the test was refused.
     pub fn rounds(self) -> u32
         ensures { λ r. ⌜ r ≡ slackValuesOf self .rounds ⌝ }

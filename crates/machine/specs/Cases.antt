@@ -8,7 +8,7 @@ use lib.ListN.{length, getD, replicate}
 use Rattle.edzl.specs.Window.{interference}
 use Rattle.tasks.specs.declared.task.Task.{Task}
 use Rattle.tasks.specs.declared.table.Table.{Table}
-use Rattle.tasks.specs.Table.{zeroTask, emptyTable, withTask}
+use Rattle.tasks.specs.Table.{zeroTask}
 use Rattle.tasks.specs.Written.{task, tableOf}
 use Rattle.judge.specs.Judge.{judged}
 use Rattle.machine.specs.Mask.{mask}

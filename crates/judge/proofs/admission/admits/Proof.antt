@@ -1,6 +1,6 @@
 -- `admits` meets its contract: by the theorem `window-admits` where the window test admits, and else by the rounds on the lists.
 use native.Mathlib.Omega.{arith}
-use mathlib.Core.Path.{_≡_, refl, sym}
+use mathlib.Core.Path.{refl, sym}
 use lib.ListN.{getD-replicate}
 use Rattle.judge.specs.Listed.{Ranges}
 use Rattle.judge.proofs.Listed.{ranges, window-listed, admits-listed}

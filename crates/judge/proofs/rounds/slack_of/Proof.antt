@@ -4,7 +4,7 @@ use native.Mathlib.Nat.{mul-le-mul, mul-le-mul-right, div-le-self, div-le-of-le-
 use native.Mathlib.Omega.{arith}
 use mathlib.Core.Path.{_≡_, sym}
 use borrow.Author.Needs.{needs}
-use Rattle.edzl.proofs.SlackRounds.{new-none, new-some}
+use Rattle.edzl.proofs.SlackLaws.{new-none, new-some}
 use Rattle.judge.proofs.Inverse.{scale, exact}
 use Rattle.judge.proofs.rounds.slack_of.Statement.{statement}
 use Rattle.judge.proofs.rounds.slack_of.Tie as tie

@@ -1,6 +1,6 @@
 -- `slack_of_tasks` meets its contract: the rounds on the lists are those of the tasks.
 use native.Mathlib.Omega.{arith}
-use mathlib.Core.Path.{_≡_, refl, ap, _∙_}
+use mathlib.Core.Path.{refl, ap, _∙_}
 use lib.ListN.{getD-replicate}
 use Rattle.edzl.specs.Slack.{Rounds}
 use Rattle.judge.specs.Listed.{Ranges}

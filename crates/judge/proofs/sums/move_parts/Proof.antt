@@ -1,7 +1,7 @@
 -- `move_parts` meets its contract. The invariant: the sums before k have the part with the new slack in place of that with the old one.
 use Prim.Native.Nat.{_+_, _-_, _≤_}
 use native.Mathlib.Omega.{arith}
-use mathlib.Core.Path.{_≡_, refl, ap, _∙_}
+use mathlib.Core.Path.{_≡_, refl, _∙_}
 use lib.ListN.{getD, length, length-set}
 use borrow.Author.Needs.{needs}
 use Rattle.laws.specs.Lists.{replaced}

@@ -1,5 +1,5 @@
 -- `next_sums` meets its contract. The invariant: each sum has the new slacks of the tasks before i, and the old ones of the others.
-use Prim.Native.Nat.{ℕ, suc, _+_, _-_, _*_, _≤_, _<_}
+use Prim.Native.Nat.{ℕ, _-_, _*_, _≤_, _<_}
 use native.Mathlib.Nat.{le-trans}
 use native.Mathlib.Numerals.{add-one}
 use native.Mathlib.Omega.{arith}
@@ -8,7 +8,7 @@ use mathlib.Core.List.{List}
 use mathlib.Core.Logic.{⊎-elim}
 use lib.ListN.{length, getD}
 use Rattle.edzl.specs.Sums.{sumTo}
-use Rattle.edzl.proofs.SumLaws.{sum-bound, sum-others}
+use Rattle.edzl.proofs.SumLaws.{sum-bound}
 use Rattle.judge.proofs.OwnPart.{part}
 use Rattle.judge.proofs.Mixed.{mixed, mixed-none, mixed-all, mixed-next, mixed-part}
 use Rattle.judge.proofs.sums.next_sums.Statement.{statement}

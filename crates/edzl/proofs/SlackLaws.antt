@@ -1,0 +1,51 @@
+-- Laws of a new slack. Others cite: `new-none` and `new-some`, what it is by whether the sum reaches; `new-fits` and `new-antitone`; and `new-ahead`, by which a
+-- job is ahead by it.
+use Prim.Native.Nat.{ℕ, _+_, _*_, _-_, _/_, _≤_, _<_}
+use mathlib.Core.Path.{_≡_}
+use native.Mathlib.Nat.{mul-comm, le-div-iff-mul-le, div-mul-le-self}
+use native.Mathlib.Omega.{arith}
+use borrow.Author.Tests.{le-leb, lt-leb}
+use Rattle.laws.proofs.CaseSplits.{by-order}
+use Rattle.edzl.specs.Slack.{reaches, newSlack}
+
+module _ (m A sum : ℕ) where
+  pub new-none : m * A ≤ sum → newSlack m A sum ≡ 0
+  unfolding newSlack reaches
+  new-none h = rw (le-leb (m * A) sum h)
+
+  pub new-some : sum < m * A → newSlack m A sum ≡ A - sum / m
+  unfolding newSlack reaches
+  new-some h = rw (lt-leb (m * A) sum h)
+
+  -- With no core every sum reaches.
+  some-cores : sum < m * A → 0 < m
+  some-cores h =
+      by-order 1 m
+      (λ some. some)
+      (λ none.
+      let e : m ≡ 0 = omega arith in
+      let nothing : m * A ≡ 0 = rw e (omega arith) in
+      absurd (omega arith))
+
+  pub new-fits : newSlack m A sum ≤ A
+  new-fits = by-order (m * A) sum (λ h. rw (new-none h) (omega arith)) (λ h. rw (new-some h) (omega arith))
+
+-- It is no larger where the sum is no smaller.
+pub new-antitone : (m A sum sum' : ℕ) → sum ≤ sum' → newSlack m A sum' ≤ newSlack m A sum
+new-antitone m A sum sum' l =
+    by-order (m * A) sum'
+    (λ h. rw (new-none m A sum' h) (omega arith))
+    (λ h.
+    let quotients : sum / m ≤ sum' / m = le-div-iff-mul-le (some-cores m A sum' h) .1 (omega (arith, div-mul-le-self sum m)) in
+    rw (new-some m A sum' h, new-some m A sum (omega arith)) (omega arith))
+
+-- A job that is in time and has lost at most what the sum gives for each core is ahead by the new slack.
+pub new-ahead : (m A sum budget left : ℕ) → budget ≤ left → m * ((A + budget) - left) ≤ sum → budget + newSlack m A sum ≤ left
+new-ahead m A sum budget left in-time paid =
+    by-order (m * A) sum
+    (λ h. rw (new-none m A sum h) (omega arith))
+    (λ h.
+    let lost : (A + budget) - left ≤ sum / m =
+    le-div-iff-mul-le (some-cores m A sum h) .1 (omega (arith, mul-comm m ((A + budget) - left)))
+    in
+    rw (new-some m A sum h) (omega arith))
