@@ -16,7 +16,7 @@ use Rattle.edzl.specs.Slack.{perTask, ofTask, roundSums, reaches, newSla
 use Rattle.edzl.proofs.WellFormed.{WellFormed}
 use Rattle.edzl.proofs.SumLaws.{sum-same, sum-monotone, bit-monotone}
 use Rattle.edzl.proofs.SlackLaws.{new-fits, new-antitone}
-use Rattle.edzl.proofs.WindowLaws.{SameTask, same-task, sum-of-same, sum-grows, admitted-few}
+use Rattle.edzl.proofs.WindowLaws.{SameTask, same-task, spare-same, sum-of-same, sum-grows, admitted-few}
 
 -- The round of a number, made whether or not a slack changed in the one before; and its slack of each task.
 unfoldable pub roundAfter : TaskSet → (m r : ℕ) → Rounds
@@ -54,16 +54,12 @@ module _ (tasks : TaskSet) (m : ℕ) where
 -- A longer set has slacks no larger in each round.
 module _ (shorter longer : TaskSet) (well : WellFormed longer) (longer-is : shorter .count ≤ longer .count) where
   module _ (same : (i : ℕ) → i < shorter .count → SameTask shorter longer i) (m : ℕ) where
-    spare-same : (i : ℕ) → i < shorter .count → spare longer i ≡ spare shorter i
-    unfolding spare
-    spare-same i h = rw (same i h .same-deadline, same i h .same-budget)
-
     -- A round keeps slacks that are no larger.
     next-longer : (r r' : ℕ) →
         ((i : ℕ) → i < shorter .count → slackAfter longer m r' i ≤ slackAfter shorter m r i) →
         (i : ℕ) → i < shorter .count → slackAfter longer m (suc r') i ≤ slackAfter shorter m (suc r) i
     next-longer r r' no-larger i h =
-        rw (slack-next longer m r' i (omega arith), slack-next shorter m r i h, spare-same i h)
+        rw (slack-next longer m r' i (omega arith), slack-next shorter m r i h, spare-same shorter longer i (same i h))
         (new-antitone m (spare shorter i) _ _
         (sum-grows shorter longer well longer-is same (slackAfter shorter m r) (slackAfter longer m r') no-larger i h))
 

@@ -30,7 +30,7 @@ module _ (tasks tasks' : TaskSet) (same-count : tasks' .count ≡ tasks .count) 
           sums-same (rounds .slacks),
           per-task-same (λ k. newSlack m (spare tasks' k) (ofTask (roundSums tasks (rounds .slacks)) k))
               (λ k. newSlack m (spare tasks k) (ofTask (roundSums tasks (rounds .slacks)) k))
-              (λ k h. ap (λ (A : ℕ). newSlack m A (ofTask (roundSums tasks (rounds .slacks)) k)) (spare-same tasks tasks' same-count same k h)),
+              (λ k h. ap (λ (A : ℕ). newSlack m A (ofTask (roundSums tasks (rounds .slacks)) k)) (spare-same tasks tasks' k (same k h))),
         )
 
     none-same : (before after : List ℕ) → noneChanges tasks' before after ≡ noneChanges tasks before after
@@ -54,4 +54,4 @@ module _ (tasks tasks' : TaskSet) (same-count : tasks' .count ≡ tasks .count) 
         rw (rounds-same, same-count)
         (ap (λ (n : ℕ). leb n m)
         (sum-same _ _ (tasks .count)
-        (λ k h. ap (λ (A : ℕ). bit (reaches m A (ofTask (allRounds tasks m .sums) k))) (spare-same tasks tasks' same-count same k h))))
+        (λ k h. ap (λ (A : ℕ). bit (reaches m A (ofTask (allRounds tasks m .sums) k))) (spare-same tasks tasks' k (same k h)))))

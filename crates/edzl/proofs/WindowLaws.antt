@@ -22,21 +22,22 @@ pub record SameTask (shorter longer : TaskSet) (i : ℕ) : Type 0 where
 pub same-task : (tasks : TaskSet) (i : ℕ) → SameTask tasks tasks i
 same-task tasks i = record { same-period = refl; same-budget = refl; same-deadline = refl }
 
-module _ (tasks tasks' : TaskSet) (same-count : tasks' .count ≡ tasks .count) (same : (i : ℕ) → i < tasks .count → SameTask tasks tasks' i) where
-  pub spare-same : (k : ℕ) → k < tasks .count → spare tasks' k ≡ spare tasks k
-  unfolding spare
-  spare-same k h = rw (same k h .same-deadline, same k h .same-budget)
+-- So is its spare.
+pub spare-same : (tasks tasks' : TaskSet) (k : ℕ) → SameTask tasks tasks' k → spare tasks' k ≡ spare tasks k
+unfolding spare
+spare-same tasks tasks' k task = rw (task .same-deadline, task .same-budget)
 
+module _ (tasks tasks' : TaskSet) (same-count : tasks' .count ≡ tasks .count) (same : (i : ℕ) → i < tasks .count → SameTask tasks tasks' i) where
   module _ (slack slack' : ℕ → ℕ) (same-slack : (i : ℕ) → i < tasks .count → slack' i ≡ slack i) (m : ℕ) where
     pub sum-of-same : (k : ℕ) → k < tasks .count → windowSum tasks' slack' k ≡ windowSum tasks slack k
     unfolding windowSum
     sum-of-same k h =
-        rw (spare-same k h, same k h .same-deadline, same-count)
+        rw (spare-same tasks tasks' k (same k h), same k h .same-deadline, same-count)
         (others-same _ _ k (tasks .count) λ i l ne. rw (same i l .same-period, same i l .same-budget, same-slack i l))
 
     may-same : (k : ℕ) → k < tasks .count → mayTurnUrgent tasks' slack' m k ≡ mayTurnUrgent tasks slack m k
     unfolding mayTurnUrgent
-    may-same k h = rw (spare-same k h, sum-of-same k h)
+    may-same k h = rw (spare-same tasks tasks' k (same k h), sum-of-same k h)
 
     pub count-same : countUrgent tasks' slack' m ≡ countUrgent tasks slack m
     unfolding countUrgent
