@@ -1,5 +1,5 @@
 //! An independent check of the table reader, the window test, the sharper test and
-//! the slot machine, written from document 01 and changes 1 to 6 of document 02
+//! the slot machine, written from document 01 and changes 1 to 7 of document 02
 //! alone and compared with the C entry and the programs.
 
 pub mod assignment;
@@ -7,8 +7,10 @@ pub mod cores;
 pub mod document_000;
 pub mod edges;
 pub mod experiment;
+pub mod extremes;
 pub mod faults;
 pub mod found;
+pub mod held;
 pub mod host;
 pub mod join_events;
 pub mod machine;
@@ -32,6 +34,7 @@ pub mod sharper_lines;
 pub mod slack;
 pub mod slack_counter;
 pub mod slow;
+pub mod sum_lines;
 pub mod tables;
 pub mod tasks;
 pub mod texts;

@@ -78,9 +78,9 @@ fn level(random: &mut Random) -> Vec<Task> {
     table
 }
 
-// A table one slot of one budget away from the other verdict on some m. As many
-// cores as tasks always admit, so m stays below.
-fn near_edge(random: &mut Random, table: Vec<Task>, admitted: Admits) -> Vec<Task> {
+/// A table one slot of one budget away from the other verdict on some m. As many
+/// cores as tasks always admit, so m stays below.
+pub fn near_edge(random: &mut Random, table: Vec<Task>, admitted: Admits) -> Vec<Task> {
     let fewer = u32::try_from(table.len() - 1).expect("at most 32 tasks");
     let cores = random.between(1, fewer.clamp(1, MOST_CORES));
     let (lighter, heavier) = if admitted(&table, cores) {

@@ -17,3 +17,4 @@ pub mod SlackRounds
 pub mod Safe
 pub mod SlackSame
 pub mod SlackExamplesHold
+pub mod SumExamplesHold

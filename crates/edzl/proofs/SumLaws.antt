@@ -1,5 +1,5 @@
 -- The laws of sums over the indexes below n, of sums that leave one index out, and of bits. Others cite: `sum-same`, `sum-monotone`, `sum-strict`, `sum-one-more`,
--- `sum-longer`, `sum-bound`; `others-same`, `others-monotone`, `sum-others`, `others-gain`; `bit-true`, `bit-false`, `bit-small`, `bit-monotone`
+-- `sum-longer`, `sum-bound`; `others-same`, `others-monotone`, `sum-others`, `others-bound`, `others-gain`; `bit-true`, `bit-false`, `bit-small`, `bit-monotone`
 -- and `count-bound`.
 use Prim.Native.Nat.{ℕ, zero, suc, _+_, _*_, _≤_, _<_}
 use mathlib.Core.Path.{_≡_, refl, sym, ap, ap₂}
@@ -89,6 +89,12 @@ module _ (f g : ℕ → ℕ) where
   -- A sum with 1 more at k.
   pub sum-one-more : (k n : ℕ) → k < n → g k ≡ suc (f k) → ((i : ℕ) → (i ≡ k → ⊥) → g i ≡ f i) → sumTo n g ≡ suc (sumTo n f)
   sum-one-more k n l at off = omega (arith, sum-others f k n l, sum-others g k n l, others-same g f k n (λ i l' ne. off i ne))
+
+-- n terms without the one at k, each at most b.
+pub others-bound : (f : ℕ → ℕ) (b k n : ℕ) → k < n → ((i : ℕ) → i < n → f i ≤ b) → sumTo n (others k f) + b ≤ n * b
+others-bound f b k n l h =
+    let most : ℕ → ℕ = λ i. b in
+    omega (arith, others-monotone f most k n (λ i l' ne. h i l'), sum-others most k n l, sum-bound most b n (λ i l'. le-refl b))
 
 -- `sum-gain` where k is left out and gains nothing.
 pub others-gain : (f g h : ℕ → ℕ) (k n m : ℕ) →

@@ -3,3 +3,4 @@ pub mod Sums
 pub mod Window
 pub mod Slack
 pub mod SlackExamples
+pub mod SumExamples

@@ -1,67 +1,77 @@
--- Why a number is divided exactly where it is multiplied with the divisor's inverse. Others cite `exact`, the quotient so computed; `parted`, a task's part
--- by the quotient of a window by a period; and for the ranges `inverse-fits` and `product-fits`.
-use Prim.Native.Nat.{ℕ, _+_, _*_, _-_, _/_, _^_, _≤_, _<_, min}
-use mathlib.Core.Path.{_≡_, ap, _∙_}
+-- Why a part is exact where its whole periods are guessed. The guess is the upper half of the window times the period's inverse: the quotient of the
+-- two, or one less. Others cite `guessed`, and for the ranges `inverse-fits` and `product-fits`.
+use Prim.Native.Nat.{ℕ, suc, _+_, _*_, _-_, _/_, _%_, _^_, _≤_, _<_, min}
+use mathlib.Core.Path.{_≡_, sym}
 use native.Mathlib.Nat.{mul-le-mul, mul-le-mul-left, mul-comm, mul-left-comm, le-of-mul-le-mul-left, lt-of-mul-lt-mul-left}
-use native.Mathlib.Nat.{div-add-mod', div-eq-of-lt-le, div-le-self, mod-lt}
+use native.Mathlib.Nat.{div-add-mod', div-le-self, mod-lt}
 use native.Mathlib.Omega.{arith}
+use Rattle.laws.proofs.CaseSplits.{by-order}
 use Rattle.edzl.specs.Window.{interference}
+use Rattle.edzl.proofs.InterferenceLaws.{staircase}
+use Rattle.judge.specs.Listed.{inverseOf}
 
--- What an inverse is scaled by.
-abbrev pub scale : ℕ
-scale = 2 ^ 40
+-- What the lower half of a product is cut off by.
+abbrev pub half : ℕ
+half = 2 ^ 32
 
--- A quotient of a number of 63 bits, and one more at most, fits 64 bits.
-pub inverse-fits : {n more : ℕ} (T : ℕ) → n < 2 ^ 63 → more ≤ 1 → n / T + more < 2 ^ 64
-inverse-fits {n} T h one = omega (arith, div-le-self n T)
+-- g whole periods T with the budget C in a window of L slots: what is left has at most one more, and the part beside the spare S is exact.
+pub record Guessed (T C L S g : ℕ) : Type 0 where
+  pub small : g ≤ L
+  pub within : g * T ≤ L
+  pub nearly : L < g * T + (T + T)
+  pub budgets : g * C ≤ g * T
+  pub part-is : min (g * C + min C (L - g * T) + min C (L - g * T - T)) S ≡ min (interference T C L) S
 
--- q whole periods T with the budget C in a window of L slots, and the part of the task beside the spare S: the least of three numbers.
-pub record Parted (T C L S q : ℕ) : Type 0 where
-  pub split : q * C + q * (T - C) ≡ q * T
-  pub within : q * T ≤ L
-  pub part-is : min (min (q * C + C) S) (L - q * (T - C)) ≡ min (interference T C L) S
+pub inverse-fits : (T : ℕ) → inverseOf T < half
+inverse-fits T = omega (arith, div-le-self 4_294_967_295 T)
 
--- The factor E is 1/T of the scale and x/T more: with L times x below the scale, the quotient of L times E is that of L by T.
-quotient : (T L E q x : ℕ) → 1 ≤ T → T * E ≡ scale + x → q * T ≤ L → L < q * T + T → L * x < scale → L * E / scale ≡ q
-quotient T L E q x T-some factor low high small =
-    let scaled : T * (L * E) ≡ L * scale + L * x = mul-left-comm T L E ∙ ap (λ (n : ℕ). L * n) factor ∙ omega arith in
-    div-eq-of-lt-le scale
-    (le-of-mul-le-mul-left {k = T} (omega (arith, mul-comm T q)) T-some)
-    (lt-of-mul-lt-mul-left T (omega (arith, mul-comm T q)))
+-- The inverse times the period is below the scale, by at most the period.
+next-below : (T : ℕ) → 1 ≤ T → (T * inverseOf T < half) × (half ≤ T * inverseOf T + T)
+next-below T T-some = omega (arith, div-add-mod' 4_294_967_295 T, mod-lt 4_294_967_295 T-some, mul-comm (inverseOf T) T)
 
-least-of-three : (a c s r : ℕ) → min (min (a + c) s) (a + r) ≡ min (a + min c r) s
-least-of-three a c s r = omega arith
-
--- The inverse is next above the quotient: times the divisor it is more than the scale, by at most the divisor.
-next-above : (T : ℕ) → 1 ≤ T → (scale < T * (scale / T + 1)) × (T * (scale / T + 1) ≤ scale + T)
-next-above T T-some = omega (arith, div-add-mod' scale T, mod-lt scale T-some, mul-comm (scale / T) T)
-
-pub exact : (T L : ℕ) → 1 ≤ T → L * T < scale → L * (scale / T + 1) / scale ≡ L / T
-exact T L T-some small =
-    let x = T * (scale / T + 1) - scale in
-    let x-fits : x ≤ T = omega (arith, next-above T T-some) in
-    quotient T L (scale / T + 1) (L / T) x T-some
-    (omega (arith, next-above T T-some))
-    (omega (arith, div-add-mod' L T))
-    (omega (arith, div-add-mod' L T, mod-lt L T-some))
-    (omega (arith, mul-le-mul-left L x-fits))
-
-module _ (T L : ℕ) (T-some : 1 ≤ T) (T-fits : T ≤ 1_000_000) (L-fits : L ≤ 1_000_000) where
-  pub product-fits : L * (scale / T + 1) ≤ 1_000_000 * (scale + 1)
+module _ (T C L : ℕ) (T-some : 1 ≤ T) (C-fits : C ≤ T) (L-fits : L ≤ 1_000_000) where
+  pub product-fits : L * inverseOf T ≤ 1_000_000 * half
   product-fits =
-      let h : scale / T + 1 ≤ scale + 1 = omega (arith, div-le-self scale T) in
+      let h : inverseOf T ≤ half = omega (arith, inverse-fits T) in
       mul-le-mul L-fits h
 
-  module _ (C : ℕ) (C-fits : C ≤ T) (S : ℕ) where
-    by-quotient : Parted T C L S (L / T)
-    unfolding interference
-    by-quotient =
-        let q = L / T in
-        let halves : C + (T - C) ≡ T = omega arith in
-        let split : q * C + q * (T - C) ≡ q * T = omega (arith, ap (λ (n : ℕ). q * n) halves) in
-        let within : q * T ≤ L = omega (arith, div-add-mod' L T) in
-        let room : L - q * (T - C) ≡ q * C + (L - q * T) = omega arith in
-        record { split = split; within = within; part-is = rw room (least-of-three (q * C) C S (L - q * T)) }
+  -- No more whole periods than fit, and at most one too few.
+  pub record Near (g : ℕ) : Type 0 where
+    pub low : g * T ≤ L
+    pub high : L < g * T + (T + T)
 
-    pub parted : (E : ℕ) → E ≡ scale / T + 1 → Parted T C L S (L * E / scale)
-    parted E e = rw (e, exact T L T-some (omega (arith, mul-le-mul L-fits T-fits))) by-quotient
+  near : Near (L * inverseOf T / half)
+  near =
+      let E = inverseOf T in
+      let g = L * E / half in
+      let below = next-below T T-some in
+      let cut : L * E ≡ g * half + L * E % half = sym (div-add-mod' (L * E) half) in
+      let rest : L * E % half < half = mod-lt (L * E) (omega arith) in
+      let swap : T * (L * E) ≡ L * (T * E) = mul-left-comm T L E in
+      let product-low : g * half ≤ L * E = omega arith in
+      let product-high : L * E + 1 ≤ g * half + half = omega arith in
+      let times-E : T * E ≤ half = omega arith in
+      let E-more : half ≤ T * E + T = omega arith in
+      let L-small : L ≤ half = omega arith in
+      record {
+        low = le-of-mul-le-mul-left {k = half} (omega (arith, swap, mul-le-mul-left T product-low, mul-le-mul-left L times-E)) (omega arith);
+        high =
+            lt-of-mul-lt-mul-left half
+            (omega (arith, swap, mul-le-mul-left T product-high, mul-le-mul-left L E-more, mul-le-mul-left T L-small));
+      }
+
+  pub guessed : (S E : ℕ) → E ≡ inverseOf T → Guessed T C L S (L * E / half)
+  guessed S E e =
+      rw e
+      (let g = L * inverseOf T / half in
+      let n = near in
+      record {
+        small = omega (arith, n .low, mul-le-mul-left g T-some);
+        within = n .low;
+        nearly = n .high;
+        budgets = mul-le-mul-left g C-fits;
+        part-is =
+            by-order T (L - g * T)
+            (λ full. omega (arith, n .low, n .high, staircase T C T-some C-fits (suc g) (L - g * T - T) L (omega (arith, n .low, n .high)) (omega (arith, n .low, n .high))))
+            (λ part. omega (arith, n .low, staircase T C T-some C-fits g (L - g * T) L (omega (arith, n .low)) (omega arith)));
+      })

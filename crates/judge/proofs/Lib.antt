@@ -8,3 +8,4 @@ pub mod Mixed
 pub mod RoundsHeld
 pub mod Computing
 pub mod SlackExamplesHold
+pub mod SumsFit

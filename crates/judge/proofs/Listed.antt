@@ -1,6 +1,8 @@
--- A table's numbers in flat lists. Others cite `ranges`, that the listed tasks are in range; `well-listed`; by the sums of the lists, each with the own part,
--- `urgent-listed`, what the window test counts, and `window-listed` and `admits-listed`, whether the slack test admits; and `rounds-listed`, the rounds made.
+-- A table's numbers in flat lists. By the sums of the lists, each with the own part, others cite `urgent-listed`, what the window test counts, and
+-- `window-listed` and `admits-listed`, whether the slack test admits; `well-listed`; and of lists with the numbers of a table's tasks `ranges`, that
+-- they are in range, and that the tests say the same: `urgent-same`, `rounds-same-as`, `admits-same-as`; `numbers-listed` is of the table of three lists.
 use Prim.Native.Nat.{ℕ, _+_, _-_, _≤_, _<_}
+use native.Mathlib.Omega.{arith}
 use mathlib.Core.Path.{_≡_, refl, sym, ap, _∙_}
 use mathlib.Core.Bool.{true}
 use mathlib.Core.List.{List}
@@ -9,7 +11,10 @@ use lib.ListN.{getD}
 use borrow.Author.Tests.{le-leb}
 use Rattle.tasks.specs.declared.task.Task.{Task}
 use Rattle.tasks.specs.Task.{inRange}
+use Rattle.tasks.specs.Limits.{maxTasks}
 use Rattle.tasks.specs.Table.{zeroTask}
+use Rattle.tasks.specs.Numbers.{tasksFrom}
+use Rattle.tasks.proofs.Numbers.{entryAt, entry-from}
 use Rattle.tasks.proofs.Range.{range-of}
 use Rattle.edzl.specs.Sums.{sumTo, bit}
 use Rattle.edzl.specs.Window.{noSlack, windowSum, mayTurnUrgent, countUrgent, admitted}
@@ -26,10 +31,41 @@ pub well-listed : (n : ℕ) (periods budgets deadlines : List ℕ) → Ranges n 
 unfolding WellFormed
 well-listed n periods budgets deadlines r i h = let own = r i h in record { budget-some = own .0; budget-fits = own .1; deadline-fits = own .2 }
 
-module _ (tasks : List Task) (n : ℕ) (periods budgets deadlines : List ℕ) (lists : SameNumbers tasks n periods budgets deadlines)
-    (in-range : (i : ℕ) → i < n → inRange (getD tasks i zeroTask) ≡ true) where
-  pub ranges : Ranges n periods budgets deadlines
-  ranges i h =
+module _ (n : ℕ) (periods budgets deadlines : List ℕ) (m : ℕ) (sums : List ℕ) (counted : ℕ)
+    (counted-is : counted ≡ sumTo n (λ k. bit (leb (needed m (getD deadlines k 0) (getD budgets k 0)) (getD sums k 0)))) where
+  pub urgent-listed :
+      ((k : ℕ) → k < n →
+      getD sums k 0 ≡ windowSum (listed periods budgets deadlines n) noSlack k + ownPart (getD deadlines k 0) (getD budgets k 0)) →
+      counted ≡ countUrgent (listed periods budgets deadlines n) noSlack m
+  unfolding countUrgent mayTurnUrgent
+  urgent-listed are =
+      let set = listed periods budgets deadlines n in
+      counted-is ∙ count-with-own set m (λ k. getD sums k 0) (windowSum set noSlack) are
+
+  -- What the window test admits, the slack test admits.
+  pub window-listed :
+      Ranges n periods budgets deadlines →
+      ((k : ℕ) → k < n →
+      getD sums k 0 ≡ windowSum (listed periods budgets deadlines n) noSlack k + ownPart (getD deadlines k 0) (getD budgets k 0)) →
+      counted ≤ m →
+      slackAdmits (listed periods budgets deadlines n) m ≡ true
+  unfolding admitted
+  window-listed fit are few =
+      let set = listed periods budgets deadlines n in
+      window-admits set m (well-listed n periods budgets deadlines fit) (le-leb (countUrgent set noSlack m) m (rw (urgent-listed are) at few))
+
+  pub admits-listed :
+      ((k : ℕ) → k < n →
+      getD sums k 0 ≡ ofTask (allRounds (listed periods budgets deadlines n) m .sums) k + ownPart (getD deadlines k 0) (getD budgets k 0)) →
+      leb counted m ≡ slackAdmits (listed periods budgets deadlines n) m
+  unfolding slackAdmits countReaching reaches
+  admits-listed are =
+      let set = listed periods budgets deadlines n in
+      ap (λ (c : ℕ). leb c m) (counted-is ∙ count-with-own set m (λ k. getD sums k 0) (ofTask (allRounds set m .sums)) are)
+
+module _ (tasks : List Task) (n : ℕ) (periods budgets deadlines : List ℕ) (lists : SameNumbers tasks n periods budgets deadlines) where
+  pub ranges : ((i : ℕ) → i < n → inRange (getD tasks i zeroTask) ≡ true) → Ranges n periods budgets deadlines
+  ranges in-range i h =
       let r = range-of (getD tasks i zeroTask) (in-range i h) in
       rw (lists .same-period i h, lists .same-budget i h, lists .same-deadline i h)
       (r .budget-some, r .budget-fits, r .deadline-fits, r .period-fits)
@@ -43,44 +79,28 @@ module _ (tasks : List Task) (n : ℕ) (periods budgets deadlines : List ℕ) (l
         same-deadline = sym (lists .same-deadline i h);
       }
 
-  module _ (m : ℕ) (sums : List ℕ) (counted : ℕ) where
-    module _ (counted-is : counted ≡ sumTo n (λ k. bit (leb (needed m (getD deadlines k 0) (getD budgets k 0)) (getD sums k 0)))) where
-      pub urgent-listed :
-          ((k : ℕ) → k < n →
-          getD sums k 0 ≡ windowSum (listed periods budgets deadlines n) noSlack k + ownPart (getD deadlines k 0) (getD budgets k 0)) →
-          counted ≡ countUrgent (firstTasks tasks n) noSlack m
-      unfolding firstTasks countUrgent mayTurnUrgent
-      urgent-listed are =
-          let set = listed periods budgets deadlines n in
-          counted-is
-          ∙ count-with-own set m (λ k. getD sums k 0) (windowSum set noSlack) are
-          ∙ sym (count-same set (firstTasks tasks n) refl same-listed noSlack noSlack (λ i h. refl) m)
+  module _ (m : ℕ) where
+    pub urgent-same : countUrgent (listed periods budgets deadlines n) noSlack m ≡ countUrgent (firstTasks tasks n) noSlack m
+    unfolding firstTasks
+    urgent-same = sym (count-same (listed periods budgets deadlines n) (firstTasks tasks n) refl same-listed noSlack noSlack (λ i h. refl) m)
 
-      -- What the window test admits, the slack test admits.
-      pub window-listed :
-          ((k : ℕ) → k < n →
-          getD sums k 0 ≡ windowSum (listed periods budgets deadlines n) noSlack k + ownPart (getD deadlines k 0) (getD budgets k 0)) →
-          counted ≤ m →
-          slackAdmits (firstTasks tasks n) m ≡ true
-      unfolding firstTasks admitted
-      window-listed are few =
-          let set = listed periods budgets deadlines n in
-          let count-is : countUrgent set noSlack m ≡ counted =
-          sym (urgent-listed are ∙ count-same set (firstTasks tasks n) refl same-listed noSlack noSlack (λ i h. refl) m)
-          in
-          admits-same set (firstTasks tasks n) refl same-listed m
-          ∙ window-admits set m (well-listed n periods budgets deadlines ranges) (le-leb (countUrgent set noSlack m) m (rw count-is few))
+    pub rounds-same-as : allRounds (listed periods budgets deadlines n) m ≡ allRounds (firstTasks tasks n) m
+    unfolding firstTasks
+    rounds-same-as = sym (rounds-same (listed periods budgets deadlines n) (firstTasks tasks n) refl same-listed m)
 
-      pub admits-listed :
-          ((k : ℕ) → k < n →
-          getD sums k 0 ≡ ofTask (allRounds (listed periods budgets deadlines n) m .sums) k + ownPart (getD deadlines k 0) (getD budgets k 0)) →
-          leb counted m ≡ slackAdmits (firstTasks tasks n) m
-      unfolding firstTasks slackAdmits countReaching reaches
-      admits-listed are =
-          let set = listed periods budgets deadlines n in
-          ap (λ (c : ℕ). leb c m) (counted-is ∙ count-with-own set m (λ k. getD sums k 0) (ofTask (allRounds set m .sums)) are)
-          ∙ sym (admits-same set (firstTasks tasks n) refl same-listed m)
+    pub admits-same-as : slackAdmits (listed periods budgets deadlines n) m ≡ slackAdmits (firstTasks tasks n) m
+    unfolding firstTasks
+    admits-same-as = sym (admits-same (listed periods budgets deadlines n) (firstTasks tasks n) refl same-listed m)
 
-  pub rounds-listed : (m : ℕ) → allRounds (listed periods budgets deadlines n) m ≡ allRounds (firstTasks tasks n) m
-  unfolding firstTasks
-  rounds-listed m = sym (rounds-same (listed periods budgets deadlines n) (firstTasks tasks n) refl same-listed m)
+pub numbers-listed :
+    (periods budgets deadlines : List ℕ) (n : ℕ) → n ≤ maxTasks
+    → SameNumbers (tasksFrom periods budgets deadlines) n periods budgets deadlines
+numbers-listed periods budgets deadlines n few =
+    let entry : (i : ℕ) → i < n → getD (tasksFrom periods budgets deadlines) i zeroTask ≡ entryAt periods budgets deadlines i =
+    λ i h. entry-from periods budgets deadlines i (omega arith)
+    in
+    record {
+      same-period = λ i h. rw (entry i h);
+      same-budget = λ i h. rw (entry i h);
+      same-deadline = λ i h. rw (entry i h);
+    }

@@ -1,5 +1,5 @@
 -- A table's numbers in flat lists, as the code of the tests holds them.
-use Prim.Native.Nat.{ℕ, _+_, _/_, _^_, _≤_, _<_}
+use Prim.Native.Nat.{ℕ, _/_, _≤_, _<_}
 use mathlib.Core.Path.{_≡_}
 use mathlib.Core.List.{List}
 use lib.ListN.{getD}
@@ -28,6 +28,6 @@ Ranges n periods budgets deadlines =
     × (getD deadlines i 0 ≤ getD periods i 0)
     × (getD periods i 0 ≤ maxPeriod)
 
--- Each has the inverse of its period: the whole number next above 2^40 / T.
-abbrev pub Inverses : (n : ℕ) (periods inverses : List ℕ) → Type 0
-Inverses n periods inverses = (i : ℕ) → i < n → getD inverses i 0 ≡ 2 ^ 40 / getD periods i 0 + 1
+-- The inverse of a period, in 32 bits.
+abbrev pub inverseOf : ℕ → ℕ
+inverseOf period = 4_294_967_295 / period

@@ -4,19 +4,16 @@ use crate::rounds::last_round;
 use crate::sums::window_sums;
 use crate::urgent::count_by_sums;
 use tasks::check::check;
+use tasks::check::check_numbers;
 use tasks::limits::MAX_TASKS;
 use tasks::outcome::Outcome;
 use tasks::table::Table;
-use tasks::task::Task;
-ghost use Prim.Native.Nat.{ℕ, _≤_, _<_};
+ghost use Prim.Native.Nat.{_≤_};
 ghost use mathlib.Core.Path.{_≡_};
-ghost use mathlib.Core.Bool.{true};
-ghost use lib.ListN.{getD};
 ghost use Rattle.tasks.specs.Limits.{maxTasks, maxCores};
-ghost use Rattle.tasks.specs.Task.{inRange};
-ghost use Rattle.tasks.specs.Table.{zeroTask};
-ghost use Rattle.tasks.specs.TaskSet.{firstTasks};
+ghost use Rattle.tasks.specs.Numbers.{tableFrom};
 ghost use Rattle.edzl.specs.Slack.{slackAdmits};
+ghost use Rattle.judge.specs.Listed.{listed, Ranges};
 ghost use Rattle.judge.specs.SlackJudge.{admissionValuesOf, admission};
 
 // Whether the table is admitted, or the refusal's number and place.
@@ -37,36 +34,26 @@ impl Admission {
     }
 }
 
-// Whether the slack test admits the first `count` tasks. What the window test admits needs no rounds.
-fn admits(tasks: [Task; MAX_TASKS], count: usize, cores: u32) -> bool
+// Whether the slack test admits the first `count` tasks of three arrays. What the window test admits needs no rounds.
+fn admits<'a>(
+    periods: &'a [u32; MAX_TASKS],
+    budgets: &'a [u32; MAX_TASKS],
+    deadlines: &'a [u32; MAX_TASKS],
+    count: usize,
+    cores: u32,
+) -> bool
     requires { ⌜ (count ≤ maxTasks) × (1 ≤ cores) × (cores ≤ maxCores) ⌝ }
-    requires { ⌜ ((i : ℕ) → i < count → inRange (getD tasks i zeroTask) ≡ true) ⌝ }
-    ensures { λ r. ⌜ r ≡ slackAdmits (firstTasks tasks count) cores ⌝ }
+    requires { ⌜ Ranges count (now periods) (now budgets) (now deadlines) ⌝ }
+    ensures { λ r. ⌜ r ≡ slackAdmits (listed (now (periods .entry)) (now (budgets .entry)) (now (deadlines .entry)) count) cores ⌝ }
 {
-    let numbers = numbers_of(tasks, count);
-    let mut sums = [0u64; MAX_TASKS];
-    window_sums(
-        &numbers.periods,
-        &numbers.budgets,
-        &numbers.deadlines,
-        &numbers.inverses,
-        &mut sums,
-        count,
-    );
-    let urgent = count_by_sums(&numbers.budgets, &numbers.deadlines, &sums, count, cores);
+    let mut sums = [0u32; MAX_TASKS];
+    window_sums(periods, budgets, deadlines, &mut sums, count);
+    let urgent = count_by_sums(budgets, deadlines, &sums, count, cores);
     if urgent <= cores {
         return true;
     }
-    last_round(
-        &numbers.periods,
-        &numbers.budgets,
-        &numbers.deadlines,
-        &numbers.inverses,
-        &mut sums,
-        count,
-        cores,
-    );
-    let reaching = count_by_sums(&numbers.budgets, &numbers.deadlines, &sums, count, cores);
+    last_round(periods, budgets, deadlines, &mut sums, count, cores);
+    let reaching = count_by_sums(budgets, deadlines, &sums, count, cores);
     reaching <= cores
 }
 
@@ -79,6 +66,32 @@ pub fn admit(table: Table, cores: u32) -> Admission
         return Admission::Refused { number, place };
     }
     let tasks = table.tasks;
-    let admitted = admits(tasks, table.count, cores);
+    let numbers = numbers_of(tasks, table.count);
+    let admitted = admits(
+        &numbers.periods,
+        &numbers.budgets,
+        &numbers.deadlines,
+        table.count,
+        cores,
+    );
+    Admission::Judged { admitted }
+}
+
+// Whether the table with these numbers is admitted on a number of cores. Nothing is copied.
+pub fn admit_numbers<'a>(
+    periods: &'a [u32; MAX_TASKS],
+    budgets: &'a [u32; MAX_TASKS],
+    deadlines: &'a [u32; MAX_TASKS],
+    count: usize,
+    cores: u32,
+) -> Admission
+    ensures { λ r. ⌜ admissionValuesOf r
+        ≡ admission (tableFrom (now (periods .entry)) (now (budgets .entry)) (now (deadlines .entry)) count) cores ⌝ }
+{
+    let outcome = check_numbers(periods, budgets, deadlines, count, cores);
+    if let Outcome::Refused { number, place } = outcome {
+        return Admission::Refused { number, place };
+    }
+    let admitted = admits(periods, budgets, deadlines, count, cores);
     Admission::Judged { admitted }
 }

@@ -1,10 +1,8 @@
 // The rounds of the slack test: document 02, change 6.
-use crate::numbers::SCALE;
-use crate::numbers::inverse_of;
 use crate::sums::next_sums;
 use crate::urgent::own_part;
 use tasks::limits::MAX_TASKS;
-ghost use Prim.Native.Nat.{ℕ, _+_, _-_, _/_, _^_, _≤_, _<_, min};
+ghost use Prim.Native.Nat.{ℕ, _+_, _-_, _≤_, _<_, min};
 ghost use mathlib.Core.Path.{_≡_};
 ghost use mathlib.Core.Bool.{not};
 ghost use lib.Dec.{eqb};
@@ -13,31 +11,30 @@ ghost use Rattle.tasks.specs.Limits.{maxTasks, maxCores, maxPeriod};
 ghost use Rattle.edzl.specs.Sums.{sumTo, bit};
 ghost use Rattle.edzl.specs.Window.{windowSum, noSlack};
 ghost use Rattle.edzl.specs.Slack.{ofTask, newSlack, allRounds};
-ghost use Rattle.judge.specs.Listed.{listed, Ranges, Inverses};
+ghost use Rattle.judge.specs.Listed.{listed, Ranges};
 
 // "or after 64"
 const MAX_ROUNDS: u32 = 64;
 
-// The slack that a sum gives. The sum counts the task itself too. With the inverse of the cores no sum is divided.
-fn slack_of(budget: u32, deadline: u32, sum: u64, cores: u32, inverse: u64) -> u32
+// The slack that a sum gives. The sum counts the task itself too.
+fn slack_of(budget: u32, deadline: u32, sum: u32, cores: u32) -> u32
     requires { ⌜ (budget ≤ deadline) × (deadline ≤ maxPeriod) × (1 ≤ cores) × (cores ≤ maxCores) ⌝ }
-    requires { ⌜ inverse ≡ 2 ^ 40 / cores + 1 ⌝ }
     requires { ⌜ min budget (deadline - budget) ≤ sum ⌝ }
     ensures { λ r. ⌜ r ≡ newSlack cores (deadline - budget) (sum - min budget (deadline - budget)) ⌝ }
 {
     let spare = deadline - budget;
     let others = sum - own_part(budget, spare);
-    if cores as u64 * spare as u64 <= others {
+    if cores * spare <= others {
         return 0;
     }
-    spare - (others * inverse / SCALE) as u32
+    spare - others / cores
 }
 
 // Gives each of the first `count` tasks the slack of its sum, and says how many slacks changed.
 fn next_slacks<'a>(
     budgets: &'a [u32; MAX_TASKS],
     deadlines: &'a [u32; MAX_TASKS],
-    sums: &[u64; MAX_TASKS],
+    sums: &[u32; MAX_TASKS],
     slacks: &mut [u32; MAX_TASKS],
     count: usize,
     cores: u32,
@@ -55,11 +52,10 @@ fn next_slacks<'a>(
         - min (getD (now (budgets .entry)) k 0) (getD (now (deadlines .entry)) k 0 - getD (now (budgets .entry)) k 0))) ⌝ }
     ensures { λ r. ⌜ r ≡ sumTo count (λ k. bit (not (eqb (getD (now (slacks .entry)) k 0) (getD (now (slacks .exit)) k 0)))) ⌝ }
 {
-    let inverse = inverse_of(cores);
     let mut changed: u32 = 0;
     let mut k: usize = 0;
     while k < count {
-        let slack = slack_of(budgets[k], deadlines[k], sums[k], cores, inverse);
+        let slack = slack_of(budgets[k], deadlines[k], sums[k], cores);
         if slacks[k] != slack {
             changed += 1;
         }
@@ -74,14 +70,12 @@ pub(crate) fn last_round<'a>(
     periods: &'a [u32; MAX_TASKS],
     budgets: &'a [u32; MAX_TASKS],
     deadlines: &'a [u32; MAX_TASKS],
-    inverses: &'a [u64; MAX_TASKS],
-    sums: &mut [u64; MAX_TASKS],
+    sums: &mut [u32; MAX_TASKS],
     count: usize,
     cores: u32,
 ) -> u32
     requires { ⌜ (count ≤ maxTasks) × (length (now sums) ≡ maxTasks) × (1 ≤ cores) × (cores ≤ maxCores) ⌝ }
     requires { ⌜ Ranges count (now periods) (now budgets) (now deadlines) ⌝ }
-    requires { ⌜ Inverses count (now periods) (now inverses) ⌝ }
     requires { ⌜ ((k : ℕ) → k < count →
         getD (now sums) k 0
         ≡ windowSum (listed (now periods) (now budgets) (now deadlines) count) noSlack k
@@ -100,16 +94,7 @@ pub(crate) fn last_round<'a>(
         if changed == 0 {
             return made;
         }
-        next_sums(
-            periods,
-            budgets,
-            deadlines,
-            inverses,
-            &before,
-            &slacks,
-            sums,
-            count,
-        );
+        next_sums(periods, budgets, deadlines, &before, &slacks, sums, count);
         before = slacks;
         changed = next_slacks(budgets, deadlines, sums, &mut slacks, count, cores);
         made += 1;

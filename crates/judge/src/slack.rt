@@ -86,12 +86,11 @@ fn slack_of_tasks(tasks: [Task; MAX_TASKS], count: usize, cores: u32) -> Slack
     ensures { λ r. ⌜ r .admitted ≡ slackAdmits (firstTasks tasks count) cores ⌝ }
 {
     let numbers = numbers_of(tasks, count);
-    let mut sums = [0u64; MAX_TASKS];
+    let mut sums = [0u32; MAX_TASKS];
     window_sums(
         &numbers.periods,
         &numbers.budgets,
         &numbers.deadlines,
-        &numbers.inverses,
         &mut sums,
         count,
     );
@@ -99,7 +98,6 @@ fn slack_of_tasks(tasks: [Task; MAX_TASKS], count: usize, cores: u32) -> Slack
         &numbers.periods,
         &numbers.budgets,
         &numbers.deadlines,
-        &numbers.inverses,
         &mut sums,
         count,
         cores,

@@ -1,15 +1,14 @@
 // The sums of the window test, and of a round from those of the round before, of all tasks at once. Each counts the task
 // itself too: the tests allow for that.
-use crate::numbers::SCALE;
 use edzl::least;
 use tasks::limits::MAX_TASKS;
-ghost use Prim.Native.Nat.{ℕ, _+_, _-_, _*_, _/_, _^_, _≤_, _<_, min};
+ghost use Prim.Native.Nat.{ℕ, _+_, _-_, _*_, _/_, _≤_, _<_, min};
 ghost use mathlib.Core.Path.{_≡_};
 ghost use lib.ListN.{length, getD};
 ghost use Rattle.tasks.specs.Limits.{maxTasks, maxPeriod};
 ghost use Rattle.edzl.specs.Window.{interference, noSlack, windowSum};
 ghost use Rattle.edzl.specs.Sums.{sumTo};
-ghost use Rattle.judge.specs.Listed.{listed, Ranges, Inverses};
+ghost use Rattle.judge.specs.Listed.{listed, Ranges, inverseOf};
 
 // A window that a slack shortens, to nothing at most.
 fn shortened(window: u32, slack: u32) -> u32
@@ -18,31 +17,39 @@ fn shortened(window: u32, slack: u32) -> u32
     if slack < window { window - slack } else { 0 }
 }
 
-// What a task counts for in the sum of one with this window and this spare: the smallest of the budgets in all periods
-// begun, the spare, and the window without what whole periods leave free. The room is compared last: then both numbers
-// come late, and the compiler makes no branch.
-fn part_of(period: u32, budget: u32, inverse: u64, window: u32, spare: u32) -> u64
+// The inverse of a period: a window times it, without the lower 32 bits, is the window's quotient by the period or one less. One
+// division here spares one for every window.
+fn inverse_of(period: u32) -> u32
+    requires { ⌜ 1 ≤ period ⌝ }
+    ensures { λ r. ⌜ r ≡ inverseOf period ⌝ }
+{
+    4_294_967_295 / period
+}
+
+// What a task counts for in the sum of one with this window and this spare. The guess of the whole periods may be one too low: then
+// what is left has one more in it.
+fn part_of(period: u32, budget: u32, inverse: u32, window: u32, spare: u32) -> u32
     requires { ⌜ (1 ≤ period) × (period ≤ maxPeriod) × (budget ≤ period) × (window ≤ maxPeriod) ⌝ }
-    requires { ⌜ inverse ≡ 2 ^ 40 / period + 1 ⌝ }
+    requires { ⌜ inverse ≡ inverseOf period ⌝ }
     ensures { λ r. ⌜ r ≡ min (interference period budget window) spare ⌝ }
 {
-    let whole = window as u64 * inverse / SCALE;
-    let begun = whole * budget as u64 + budget as u64;
-    let room = window as u64 - whole * (period - budget) as u64;
-    least(least(begun, spare as u64), room)
+    let guess = (window as u64 * inverse as u64 >> 32) as u32;
+    let left = window - guess * period;
+    let more = shortened(left, period);
+    let interference = guess * budget + least(budget, left) + least(budget, more);
+    least(interference, spare)
 }
 
 // Adds to each of the first `count` sums what one task counts for in it.
 fn add_parts(
     period: u32,
     budget: u32,
-    inverse: u64,
     budgets: &[u32; MAX_TASKS],
     deadlines: &[u32; MAX_TASKS],
-    sums: &mut [u64; MAX_TASKS],
+    sums: &mut [u32; MAX_TASKS],
     count: usize,
 )
-    requires { ⌜ (1 ≤ period) × (period ≤ maxPeriod) × (budget ≤ period) × (inverse ≡ 2 ^ 40 / period + 1) ⌝ }
+    requires { ⌜ (1 ≤ period) × (period ≤ maxPeriod) × (budget ≤ period) ⌝ }
     requires { ⌜ (count ≤ maxTasks) × (length (now sums) ≡ maxTasks) ⌝ }
     requires { ⌜ ((k : ℕ) → k < count → getD (now budgets) k 0 ≤ getD (now deadlines) k 0) ⌝ }
     requires { ⌜ ((k : ℕ) → k < count → getD (now deadlines) k 0 ≤ maxPeriod) ⌝ }
@@ -54,6 +61,7 @@ fn add_parts(
         + min (interference period budget (getD (now (deadlines .entry)) k 0))
         (getD (now (deadlines .entry)) k 0 - getD (now (budgets .entry)) k 0)) ⌝ }
 {
+    let inverse = inverse_of(period);
     let mut k: usize = 0;
     while k < count {
         let window = deadlines[k];
@@ -68,13 +76,11 @@ pub(crate) fn window_sums<'a>(
     periods: &'a [u32; MAX_TASKS],
     budgets: &'a [u32; MAX_TASKS],
     deadlines: &'a [u32; MAX_TASKS],
-    inverses: &'a [u64; MAX_TASKS],
-    sums: &mut [u64; MAX_TASKS],
+    sums: &mut [u32; MAX_TASKS],
     count: usize,
 )
     requires { ⌜ (count ≤ maxTasks) × (length (now sums) ≡ maxTasks) ⌝ }
     requires { ⌜ Ranges count (now periods) (now budgets) (now deadlines) ⌝ }
-    requires { ⌜ Inverses count (now periods) (now inverses) ⌝ }
     requires { ⌜ ((k : ℕ) → k < count → getD (now sums) k 0 ≡ 0) ⌝ }
     ensures { λ _. ⌜ length (now (sums .exit)) ≡ maxTasks ⌝ }
     ensures { λ _. ⌜ ((k : ℕ) → k < count →
@@ -84,15 +90,7 @@ pub(crate) fn window_sums<'a>(
 {
     let mut i: usize = 0;
     while i < count {
-        add_parts(
-            periods[i],
-            budgets[i],
-            inverses[i],
-            budgets,
-            deadlines,
-            sums,
-            count,
-        );
+        add_parts(periods[i], budgets[i], budgets, deadlines, sums, count);
         i += 1;
     }
 }
@@ -102,15 +100,14 @@ pub(crate) fn window_sums<'a>(
 fn move_parts(
     period: u32,
     budget: u32,
-    inverse: u64,
     before: u32,
     slack: u32,
     budgets: &[u32; MAX_TASKS],
     deadlines: &[u32; MAX_TASKS],
-    sums: &mut [u64; MAX_TASKS],
+    sums: &mut [u32; MAX_TASKS],
     count: usize,
 )
-    requires { ⌜ (1 ≤ period) × (period ≤ maxPeriod) × (budget ≤ period) × (inverse ≡ 2 ^ 40 / period + 1) ⌝ }
+    requires { ⌜ (1 ≤ period) × (period ≤ maxPeriod) × (budget ≤ period) ⌝ }
     requires { ⌜ (count ≤ maxTasks) × (length (now sums) ≡ maxTasks) ⌝ }
     requires { ⌜ ((k : ℕ) → k < count → getD (now budgets) k 0 ≤ getD (now deadlines) k 0) ⌝ }
     requires { ⌜ ((k : ℕ) → k < count → getD (now deadlines) k 0 ≤ maxPeriod) ⌝ }
@@ -127,6 +124,7 @@ fn move_parts(
         + min (interference period budget (getD (now (deadlines .entry)) k 0 - slack))
         (getD (now (deadlines .entry)) k 0 - getD (now (budgets .entry)) k 0)) ⌝ }
 {
+    let inverse = inverse_of(period);
     let mut k: usize = 0;
     while k < count {
         let deadline = deadlines[k];
@@ -144,15 +142,13 @@ pub(crate) fn next_sums<'a>(
     periods: &'a [u32; MAX_TASKS],
     budgets: &'a [u32; MAX_TASKS],
     deadlines: &'a [u32; MAX_TASKS],
-    inverses: &'a [u64; MAX_TASKS],
     before: &'a [u32; MAX_TASKS],
     slacks: &'a [u32; MAX_TASKS],
-    sums: &mut [u64; MAX_TASKS],
+    sums: &mut [u32; MAX_TASKS],
     count: usize,
 )
     requires { ⌜ (count ≤ maxTasks) × (length (now sums) ≡ maxTasks) ⌝ }
     requires { ⌜ Ranges count (now periods) (now budgets) (now deadlines) ⌝ }
-    requires { ⌜ Inverses count (now periods) (now inverses) ⌝ }
     requires { ⌜ ((k : ℕ) → k < count →
         getD (now sums) k 0
         ≡ sumTo count
@@ -174,7 +170,6 @@ pub(crate) fn next_sums<'a>(
             move_parts(
                 periods[i],
                 budgets[i],
-                inverses[i],
                 before[i],
                 slacks[i],
                 budgets,

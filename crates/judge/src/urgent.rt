@@ -17,10 +17,10 @@ ghost use Rattle.edzl.specs.Window.{countUrgent, noSlack};
 ghost use Rattle.tasks.specs.TaskSet.{firstTasks};
 
 // What a task counts for in its own sum: in a window of its deadline less its slack it interferes by its budget.
-pub(crate) fn own_part(budget: u32, spare: u32) -> u64
+pub(crate) fn own_part(budget: u32, spare: u32) -> u32
     ensures { λ r. ⌜ r ≡ min budget spare ⌝ }
 {
-    least(budget as u64, spare as u64)
+    least(budget, spare)
 }
 
 // How many tasks have a sum over the others that is at least `cores` times their spare. The sums count the task itself
@@ -28,7 +28,7 @@ pub(crate) fn own_part(budget: u32, spare: u32) -> u64
 pub(crate) fn count_by_sums<'a>(
     budgets: &'a [u32; MAX_TASKS],
     deadlines: &'a [u32; MAX_TASKS],
-    sums: &[u64; MAX_TASKS],
+    sums: &[u32; MAX_TASKS],
     count: usize,
     cores: u32,
 ) -> u32
@@ -49,7 +49,7 @@ pub(crate) fn count_by_sums<'a>(
         let budget = budgets[k];
         let spare = deadlines[k] - budget;
         let own = own_part(budget, spare);
-        if cores as u64 * spare as u64 + own <= sums[k] {
+        if cores * spare + own <= sums[k] {
             urgent += 1;
         }
         k += 1;
@@ -64,12 +64,11 @@ pub(crate) fn count_urgent(tasks: [Task; MAX_TASKS], count: usize, cores: u32) -
     ensures { λ r. ⌜ r ≡ countUrgent (firstTasks tasks count) noSlack cores ⌝ }
 {
     let numbers = numbers_of(tasks, count);
-    let mut sums = [0u64; MAX_TASKS];
+    let mut sums = [0u32; MAX_TASKS];
     window_sums(
         &numbers.periods,
         &numbers.budgets,
         &numbers.deadlines,
-        &numbers.inverses,
         &mut sums,
         count,
     );

@@ -1,4 +1,10 @@
+pub mod Naming
+pub mod Spelling
 pub mod NamesLine
+pub mod ValueScan
 pub mod ValueLine
 pub mod ValueLines
+pub mod NumbersRead
 pub mod Small
+pub mod Long
+pub mod CountedLaws

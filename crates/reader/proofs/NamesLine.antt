@@ -1,54 +1,77 @@
--- What the names line of a text s is where its reader stops: at a text that is not ended, at a line that has not three fields, and by the three
--- fields; and what it says of a text: `names-read`, `names-broken`.
-use Prim.Native.Nat.{ℕ, _+_, _-_, _≤_, _<_}
+-- What the names line of a text s is where its reader stops, by the names that it finds; and what it says of a text: `names-read`, `names-broken`.
+use Prim.Native.Nat.{ℕ, _+_, _-_, _≤_}
 use native.Mathlib.Omega.{arith}
-use mathlib.Core.Path.{_≡_, sym, _∙_}
-use mathlib.Core.Bool.{true, false, cond}
-use mathlib.Core.List.{List}
-use lib.ListN.{length, take, drop}
-use borrow.Author.Tests.{eq-eqb}
-use Rattle.laws.proofs.CaseSplits.{by-cond, clash}
+use mathlib.Core.Path.{_≡_, sym, ap, _∙_}
+use mathlib.Core.Bool.{true, false}
+use mathlib.Core.List.{List, _∷_, _++_}
+use lib.ListN.{length}
+use Rattle.laws.proofs.CaseSplits.{by-test, by-cond, clash}
 use Rattle.laws.proofs.Booleans.{and-left}
-use Rattle.laws.proofs.Parts.{from, past, from-drop}
-use Rattle.text.specs.Lines.{lineEnd, has, before, after, fieldCount}
-use Rattle.text.specs.Fields.{threeFields}
-use Rattle.text.specs.declared.fields.Fields.the-variants.{Other}
-use Rattle.text.proofs.Split.{here, hasnt-of, cut}
-use Rattle.text.proofs.FieldLaws.{ThreeFields, no-fields}
+use Rattle.laws.proofs.Parts.{from, from-drop}
+use Rattle.text.specs.Lines.{lineEnd, space, has, before, after}
+use Rattle.text.proofs.Split.{here}
 use Rattle.reader.specs.declared.names.Columns.{Columns}
 use Rattle.reader.specs.declared.names.NamesLine.the-variants.{Read, Broken}
-use Rattle.reader.specs.Names.{columnsIn, columnsOf, eachNamed, threeNames, beginsWithNames}
+use Rattle.reader.specs.Names.{columnsOf, threeNames, beginsWithNames}
 use Rattle.reader.specs.Parts.{namesLine}
+use Rattle.reader.proofs.Naming.{name, nameAt, fieldLength, At, at-name, Order}
+use Rattle.reader.proofs.Spelling.{secondName, thirdName, FoundThree, spelling, columns, in-columns}
 
--- the byte 10 was looked for, and r bytes stand before it
-module _ (s : List ℕ) (r : ℕ) (e : r ≡ length (before lineEnd s)) where
-  pub not-ended : length s ≤ r → Broken ≡ namesLine s
-  unfolding namesLine beginsWithNames
-  not-ended h = rw (hasnt-of lineEnd s (rw e at h))
+-- no names line: what the code finds is not the three names once each
+broken : (s : List ℕ) → (FoundThree s → ⊥) → Broken ≡ namesLine s
+unfolding namesLine
+broken s n = by-test (beginsWithNames s) (λ t. absurd (n (spelling s t))) (λ t. rw t)
 
-  -- it is there, and so the line is
-  module _ (h : r < length s) where
-    by-line : namesLine s ≡ cond (threeNames (take r s)) (Read (columnsOf (take r s)) (r + 1)) Broken
-    unfolding namesLine beginsWithNames
-    by-line = let k = cut lineEnd s r e h in rw (k .is, ← e, ← k .front)
+-- the first name was looked for, and a was found
+module _ (s : List ℕ) (a : ℕ) (e : a ≡ nameAt space s) where
+  pub no-first : a ≡ 3 → Broken ≡ namesLine s
+  no-first h = broken s (λ o. omega (arith, e, o .first))
 
-    pub not-three : threeFields (take r s) ≡ Other → Broken ≡ namesLine s
-    unfolding threeNames
-    not-three o = sym (by-line ∙ rw (no-fields (take r s) o))
+  -- a name, which has n bytes with its space
+  module _ (h : a ≡ 3 → ⊥) (n : ℕ) (l : n ≡ fieldLength a) where
+    first : At space a s
+    first = at-name space a s e h
 
-    -- three fields: whether each name is one of them decides
-    module _
-        (a b : ℕ) (p : ThreeFields (take r s) a b) (k : Columns)
-        (w : k ≡ columnsIn (take a (take r s)) (take (b - (a + 1)) (drop (a + 1) (take r s))) (past (take r s) b)) where
-      by-names : namesLine s ≡ cond (eachNamed k) (Read k (r + 1)) Broken
-      unfolding threeNames columnsOf
-      by-names = by-line ∙ rw (eq-eqb (fieldCount (take r s)) 3 (p .count), w, p .first, p .second, p .third)
+    pub first-fits : n ≤ length s
+    first-fits = omega (arith, l, first .fits)
 
-      pub named : eachNamed k ≡ true → Read k (r + 1) ≡ namesLine s
-      named t = sym (by-names ∙ rw t)
+    -- the second name was looked for, and b was found
+    module _ (b : ℕ) (e₁ : b ≡ nameAt space (from s n)) where
+      second-is : b ≡ secondName s
+      second-is = e₁ ∙ rw (l, e)
 
-      pub unnamed : eachNamed k ≡ false → Broken ≡ namesLine s
-      unnamed t = sym (by-names ∙ rw t)
+      pub no-second : b ≡ 3 → Broken ≡ namesLine s
+      no-second h₁ = broken s (λ o. omega (arith, second-is, o .second))
+
+      pub name-twice : b ≡ a → Broken ≡ namesLine s
+      name-twice q = broken s (λ o. o .other (sym second-is ∙ q ∙ e))
+
+      -- another name, which has m bytes with its space
+      module _ (h₁ : b ≡ 3 → ⊥) (other : b ≡ a → ⊥) (m : ℕ) (l₁ : m ≡ fieldLength b) where
+        second : At space b (from s n)
+        second = at-name space b (from s n) e₁ h₁
+
+        pub second-fits : m ≤ length (from s n)
+        second-fits = omega (arith, l₁, second .fits)
+
+        -- the third name was looked for, and c was found: the one that is left, or not
+        module _ (c : ℕ) (e₂ : c ≡ nameAt lineEnd (from (from s n) m)) where
+          third-is : c ≡ thirdName s
+          third-is = e₂ ∙ rw (l₁, second-is, l, e)
+
+          pub no-third : (c ≡ 3 - a - b → ⊥) → Broken ≡ namesLine s
+          no-third g = broken s (λ o. omega (arith, e, second-is, third-is, o .sum, first .known, second .known))
+
+          pub all-three : c ≡ 3 - a - b → Read (columns a b) 23 ≡ namesLine s
+          all-three g =
+              let third = at-name lineEnd c (from (from s n) m) e₂ (λ q. omega (arith, first .known, second .known)) in
+              let o : Order a b c = omega (arith, first .known, second .known) in
+              let u = from (from (from s n) m) (fieldLength c) in
+              let w : from (from s n) m ≡ name c ++ lineEnd ∷ u = third .whole in
+              let v : from s n ≡ name b ++ space ∷ (name c ++ lineEnd ∷ u) =
+              second .whole ∙ ap (λ (r : List ℕ). name b ++ space ∷ r) (rw (← l₁) w)
+              in
+              in-columns a b c u o ∙ ap namesLine (sym (first .whole ∙ ap (λ (r : List ℕ). name a ++ space ∷ r) (rw (← l) v)))
 
 -- a names line that was read, and none
 pub record NamesRead (s : List ℕ) (k : Columns) (n : ℕ) : Type 0 where

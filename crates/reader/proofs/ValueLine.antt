@@ -1,88 +1,195 @@
--- What the value line of a text s is where its reader stops: at a line that is not three values, at one that is not ended, and by the three
--- values; and what it says of a text: `line-read`, `line-broken`.
-use Prim.Native.Nat.{ℕ, zero, suc, _+_, _^_, _≤_, _<_}
+-- What the value line of a text s is where its reader stops: `no-first`, `no-second` and `no-third` at a value that is none, by what the reader of a
+-- value says (`ended`, `not-ended`), and `all-three`; and what it says of a text: `line-read`, `line-broken`.
+use Prim.Native.Nat.{ℕ, zero, suc, _+_, _≤_, _<_}
 use native.Mathlib.Omega.{arith}
-use mathlib.Core.Path.{_≡_, sym, ap, _∙_}
+use mathlib.Core.Path.{_≡_, refl, sym, _∙_}
 use mathlib.Core.Bool.{Bool, true, false, cond, _&&_, and-false}
 use mathlib.Core.List.{List, [], _∷_}
-use lib.Dec.{eqb}
-use lib.ListN.{length, getD}
-use borrow.Author.Tests.{eqb-true}
-use Rattle.laws.proofs.CaseSplits.{by-cond, clash}
-use Rattle.laws.proofs.Booleans.{and-left}
-use Rattle.laws.proofs.Parts.{from, from-drop}
-use Rattle.text.specs.Lines.{lineEnd, has, before, after, field, fieldCount}
-use Rattle.text.specs.Number.{decimalFrom, decimal, isNumber}
-use Rattle.text.specs.Fields.{areThree, threeNumbers}
-use Rattle.text.specs.declared.fields.Numbers.the-variants as Numbers
-use Rattle.text.proofs.Split.{here, has-of, hasnt-of}
-use Rattle.text.proofs.NumberLaws.{no-limit}
-use Rattle.text.proofs.FieldLaws.{no-more}
-use Rattle.text.proofs.ThreeNumbers.{AreThree, three-are, three-are-not}
+use borrow.Author.Tests.{ltb-true}
+use lib.Dec.{eqb, ltb}
+use lib.ListN.{length, getD, set}
+use Rattle.laws.proofs.CaseSplits.{by-test, not-both}
+use Rattle.laws.proofs.Booleans.{and-left, and-right, both-ways}
+use Rattle.laws.proofs.Parts.{from, past, from-drop, from-length}
+use Rattle.text.specs.Lines.{lineEnd, space, has, before, after, field}
+use Rattle.text.specs.Number.{isDigit, decimal, numberUpTo}
+use Rattle.text.specs.Fields.{areThree}
+use Rattle.text.specs.declared.number.Before.the-variants.{Read}
+use Rattle.text.proofs.Split.{here, has-after, cut}
+use Rattle.text.proofs.NumberLaws.{no-other}
+use Rattle.text.proofs.NumbersOn.{numbersOn, are-three, on-line}
+use Rattle.text.proofs.ThreeNumbers as Three
 use Rattle.tasks.specs.declared.task.Task.{Task}
 use Rattle.reader.specs.declared.names.Columns.{Columns}
-use Rattle.reader.specs.declared.values.ValueLine.the-variants.{Read, Broken}
 use Rattle.reader.specs.Value.{isValue}
+use Rattle.reader.specs.Names.{eachNamed}
 use Rattle.reader.specs.Reading.{threeValues, beginsWithValues, taskOf}
-use Rattle.reader.specs.Parts.{valueLine}
+use Rattle.reader.proofs.ValueScan.{largest, value-number, no-digits}
+
+-- whether a value stands before the first byte b of a text, and is ended by it
+abbrev valueUpTo : ℕ → List ℕ → Bool
+valueUpTo b s = has b s && isValue (before b s)
+
+-- a value of r bytes, ended by b
+pub record Ended (b : ℕ) (s : List ℕ) (r : ℕ) : Type 0 where
+  pub is : valueUpTo b s ≡ true
+  pub number : numberUpTo 7 largest b s ≡ Read (decimal (before b s)) r
+  pub within : r + 1 ≤ length s
+  pub rest : past s r ≡ after b s
+
+-- the answer r of the reader of a value
+module _ (b : ℕ) (s : List ℕ) (r : ℕ) (e : r ≡ cond (valueUpTo b s) (length (before b s)) 0) where
+  pub not-ended : r ≡ 0 → valueUpTo b s ≡ false
+  not-ended z =
+      by-test (valueUpTo b s)
+      (λ t.
+      let empty : length (before b s) ≡ 0 = sym (e ∙ rw t) ∙ z in
+      not-both (isValue (before b s)) (and-right (has b s) (isValue (before b s)) t) (no-digits (before b s) empty))
+      (λ t. t)
+
+  pub ended : (r ≡ 0 → ⊥) → Ended b s r
+  unfolding numberUpTo
+  ended n =
+      by-test (valueUpTo b s)
+      (λ t.
+      let count : r ≡ length (before b s) = e ∙ rw t in
+      let within : r + 1 ≤ length s = omega (arith, here b s (and-left (has b s) (isValue (before b s)) t) .within) in
+      record {
+        is = t;
+        number = rw (value-number (before b s), and-right (has b s) (isValue (before b s)) t, count);
+        within = within;
+        rest = cut b s r count (omega arith) .rest;
+      })
+      (λ t. absurd (n (e ∙ rw t)))
+
+-- a byte after the first b is one of the text
+has-of-after : (b e : ℕ) (s : List ℕ) → has e (after b s) ≡ true → has e s ≡ true
+unfolding has after
+has-of-after b e [] h = h
+has-of-after b e (x ∷ s) h =
+    by-test (eqb x e)
+    (λ p. rw p)
+    (λ p. by-test (eqb x b) (λ q. rw p (rw q at h)) (λ q. rw p (has-of-after b e s (rw q at h))))
+
+-- no value has a byte 10: one after the space that ends a value is that of the text
+same-end : (s : List ℕ) → valueUpTo space s ≡ true → has lineEnd s ≡ has lineEnd (after space s)
+unfolding isDigit
+same-end s t =
+    let v = and-right (has space s) (isValue (before space s)) t in
+    let none : has lineEnd (before space s) ≡ false =
+    by-test (has lineEnd (before space s))
+    (λ h. not-both (isValue (before space s)) v (sym (value-number (before space s)) ∙ no-other 7 largest lineEnd refl (before space s) h))
+    (λ h. h)
+    in
+    both-ways (has lineEnd s) (has lineEnd (after space s))
+    (λ h. has-after space lineEnd s refl (and-left (has space s) (isValue (before space s)) t) h none)
+    (has-of-after space lineEnd s)
+
+-- the first of some values on a line, which is ended
+first-value :
+    (n : ℕ) (s : List ℕ)
+    → (has lineEnd s && numbersOn 7 largest (suc n) (before lineEnd s))
+    ≡ (valueUpTo space s && (has lineEnd (after space s) && numbersOn 7 largest n (before lineEnd (after space s))))
+first-value n s =
+    rw (on-line 7 largest n s, value-number (before space s))
+    (by-test (valueUpTo space s) (λ t. rw (t, same-end s t)) (λ t. rw (t, and-false (has lineEnd s))))
 
 -- no value of 7 digits is above the largest: three values are three numbers
-three-values : (l : List ℕ) → threeValues l ≡ areThree 7 9999999 l
-unfolding threeValues isValue areThree
-three-values l =
-    let h : 10 ^ 7 ≤ suc 9999999 = omega arith in
-    rw (no-limit 7 9999999 h (field 0 l), no-limit 7 9999999 h (field 1 l), no-limit 7 9999999 h (field 2 l))
+three-values : (l : List ℕ) → threeValues l ≡ areThree 7 largest l
+unfolding threeValues areThree
+three-values l = rw (value-number (field 0 l), value-number (field 1 l), value-number (field 2 l))
 
--- the three values by their columns: there is no fourth
-three-fields : (l : List ℕ) → areThree 7 9999999 l ≡ true → fieldCount l ≡ 3
-unfolding areThree
-three-fields l t =
-    let c = eqb (fieldCount l) 3 in
-    let n : ℕ → Bool = λ i. isNumber 7 9999999 (field i l) in
-    eqb-true (fieldCount l) 3 (and-left c (n 0) (and-left (c && n 0) (n 1) (and-left (c && n 0 && n 1) (n 2) t)))
+-- the tests as the code makes them
+tests :
+    (s : List ℕ)
+    → beginsWithValues s
+    ≡ (valueUpTo space s && (valueUpTo space (after space s) && valueUpTo lineEnd (after space (after space s))))
+unfolding beginsWithValues numbersOn
+tests s =
+    rw (three-values (before lineEnd s), are-three 7 largest (before lineEnd s), first-value 1 s, first-value 0 (after space s), value-number)
 
-picked :
-    (s : List ℕ) (x y z n : ℕ) → AreThree 7 9999999 s x y z n → (i : ℕ) → decimal (field i (before lineEnd s)) ≡ getD (x ∷ y ∷ z ∷ []) i 0
-unfolding decimal decimalFrom
-picked s x y z n p zero = p .first
-picked s x y z n p (suc zero) = p .second
-picked s x y z n p (suc (suc zero)) = p .third
-picked s x y z n p (suc (suc (suc i))) = ap decimal (no-more (before lineEnd s) (three-fields (before lineEnd s) (p .are)) i)
+three-sets : (vs : List ℕ) (x y z : ℕ) → length vs ≡ 3 → set (set (set vs 0 x) 1 y) 2 z ≡ x ∷ y ∷ z ∷ []
+three-sets [] x y z l = absurd (omega arith)
+three-sets (a ∷ []) x y z l = absurd (omega arith)
+three-sets (a ∷ b ∷ []) x y z l = absurd (omega arith)
+three-sets (a ∷ b ∷ c ∷ []) x y z l = refl
+three-sets (a ∷ b ∷ c ∷ d ∷ vs) x y z l = absurd (omega arith)
 
--- the task of three values
-abbrev task : Columns → (x y z : ℕ) → Task
-task c x y z =
+module _ (s : List ℕ) where
+  -- what the reader of a line answers, and leaves in its array
+  pub record Answer (vs : List ℕ) (r : ℕ) : Type 0 where
+    pub count : r ≡ cond (beginsWithValues s) (length (before lineEnd s) + 1) 0
+    pub values :
+        beginsWithValues s ≡ true
+        → vs ≡ decimal (field 0 (before lineEnd s)) ∷ decimal (field 1 (before lineEnd s)) ∷ decimal (field 2 (before lineEnd s)) ∷ []
+
+  nothing : (vs : List ℕ) → beginsWithValues s ≡ false → Answer vs 0
+  nothing vs f = record { count = rw f; values = λ t. not-both (beginsWithValues s) t f }
+
+  pub no-first : (vs : List ℕ) → valueUpTo space s ≡ false → Answer vs 0
+  no-first vs f = nothing vs (tests s ∙ rw f)
+
+  -- the first value has a bytes
+  module _ (a : ℕ) (v : Ended space s a) where
+    pub no-second : (vs : List ℕ) → valueUpTo space (past s a) ≡ false → Answer vs 0
+    no-second vs f = nothing vs (tests s ∙ rw (← v .rest, v .is, f))
+
+    -- the second has b bytes
+    module _ (b : ℕ) (w : Ended space (past s a) b) where
+      pub no-third : (vs : List ℕ) → valueUpTo lineEnd (past (past s a) b) ≡ false → Answer vs 0
+      no-third vs f = nothing vs (tests s ∙ rw (← v .rest, v .is, ← w .rest, w .is, f))
+
+      -- the third has d bytes
+      module _ (d : ℕ) (u : Ended lineEnd (past (past s a) b) d) where
+        pub fits : a + 1 + b + 1 + d + 1 ≤ length s
+        fits = omega (arith, u .within, w .within, v .within, from-length s (a + 1), from-length (past s a) (b + 1))
+
+        -- each was put into its place, of three that were in the array at first
+        pub all-three :
+            (vs v₁ v₂ v₃ : List ℕ)
+            → length vs ≡ 3
+            → v₁ ≡ cond (valueUpTo space s) (set vs 0 (decimal (before space s))) vs
+            → v₂ ≡ cond (valueUpTo space (past s a)) (set v₁ 1 (decimal (before space (past s a)))) v₁
+            → v₃ ≡ cond (valueUpTo lineEnd (past (past s a) b)) (set v₂ 2 (decimal (before lineEnd (past (past s a) b)))) v₂
+            → Answer v₃ (a + 1 + b + 1 + d + 1)
+        all-three vs v₁ v₂ v₃ l e₁ e₂ e₃ =
+            let t = Three.all-three 7 largest s _ a (v .number) (omega (arith, v .within)) _ b (w .number) (omega (arith, w .within)) _ d (u .number) in
+            let p = Three.three-are 7 largest s _ _ _ _ (sym t) in
+            let is : beginsWithValues s ≡ true = tests s ∙ rw (← v .rest, v .is, ← w .rest, w .is, u .is) in
+            record {
+              count = rw (is, p .count);
+              values = λ _. rw (e₃, u .is, e₂, w .is, e₁, v .is, p .first, p .second, p .third) (three-sets vs _ _ _ l);
+            }
+
+-- the columns of three names are three
+pub record Columns-below (c : Columns) : Type 0 where
+  pub period : c .period < 3
+  pub budget : c .budget < 3
+  pub deadline : c .deadline < 3
+
+pub columns-below : (c : Columns) → eachNamed c ≡ true → Columns-below c
+unfolding eachNamed
+columns-below c t =
+    let p = ltb (c .period) 3 in
+    let b = ltb (c .budget) 3 in
+    let d = ltb (c .deadline) 3 in
+    let two = and-left (p && b) d t in
     record {
-      period = getD (x ∷ y ∷ z ∷ []) (c .period) 0;
-      budget = getD (x ∷ y ∷ z ∷ []) (c .budget) 0;
-      deadline = getD (x ∷ y ∷ z ∷ []) (c .deadline) 0;
+      period = ltb-true (c .period) 3 (and-left p b two);
+      budget = ltb-true (c .budget) 3 (and-right p b two);
+      deadline = ltb-true (c .deadline) 3 (and-right (p && b) d t);
     }
 
-module _ (c : Columns) (s : List ℕ) where
-  by-line :
-      valueLine c s
-      ≡ cond (has lineEnd s && areThree 7 9999999 (before lineEnd s)) (Read (taskOf c (before lineEnd s)) (length (before lineEnd s) + 1)) Broken
-  unfolding valueLine beginsWithValues
-  by-line = rw (three-values (before lineEnd s))
+-- the fields by their columns
+picked :
+    (l : List ℕ) (i : ℕ) → i < 3
+    → getD (decimal (field 0 l) ∷ decimal (field 1 l) ∷ decimal (field 2 l) ∷ []) i 0 ≡ decimal (field i l)
+picked l zero h = refl
+picked l (suc zero) h = refl
+picked l (suc (suc zero)) h = refl
+picked l (suc (suc (suc i))) h = absurd (omega arith)
 
-  pub not-values : threeNumbers 7 9999999 s ≡ Numbers.Broken → Broken ≡ valueLine c s
-  not-values b = sym (by-line ∙ rw (three-are-not 7 9999999 s b, and-false (has lineEnd s)))
-
-  -- three numbers, the last of which ends at n
-  module _ (x y z n : ℕ) (t : threeNumbers 7 9999999 s ≡ Numbers.Three x y z n) where
-    pub not-ended : length s ≤ n → Broken ≡ valueLine c s
-    not-ended h =
-        let p = three-are 7 9999999 s x y z n t in
-        sym (by-line ∙ rw (hasnt-of lineEnd s (omega (arith, p .count))))
-
-    pub values : n < length s → Read (task c x y z) (n + 1) ≡ valueLine c s
-    unfolding taskOf
-    values h =
-        let p = three-are 7 9999999 s x y z n t in
-        let q = picked s x y z n p in
-        sym (by-line ∙ rw (has-of lineEnd s (omega (arith, p .count)), p .are, ← p .count, q (c .period), q (c .budget), q (c .deadline)))
-
--- a value line that was read, and none
+-- a value line that was read, of n bytes, and none
 pub record LineRead (c : Columns) (s : List ℕ) (k : Task) (n : ℕ) : Type 0 where
   pub is : beginsWithValues s ≡ true
   pub task-is : taskOf c (before lineEnd s) ≡ k
@@ -90,20 +197,29 @@ pub record LineRead (c : Columns) (s : List ℕ) (k : Task) (n : ℕ) : Type 0 w
   pub some-bytes : 0 < n
   pub within : n ≤ length s
 
-ended : (s : List ℕ) → beginsWithValues s ≡ true → has lineEnd s ≡ true
-unfolding beginsWithValues
-ended s t = and-left (has lineEnd s) (threeValues (before lineEnd s)) t
+module _ (s vs : List ℕ) (n : ℕ) (a : Answer s vs n) where
+  pub line-broken : n ≡ 0 → beginsWithValues s ≡ false
+  line-broken z =
+      by-test (beginsWithValues s)
+      (λ t. let e : n ≡ length (before lineEnd s) + 1 = a .count ∙ rw t in absurd (omega arith))
+      (λ t. t)
 
-pub line-read : (c : Columns) (s : List ℕ) (k : Task) (n : ℕ) → valueLine c s ≡ Read k n → LineRead c s k n
-unfolding valueLine
-line-read c s k n =
-    by-cond (λ r. r ≡ Read k n → LineRead c s k n) (beginsWithValues s)
-    (λ t e.
-    let q : n ≡ length (before lineEnd s) + 1 = cc in
-    let l = here lineEnd s (ended s t) in
-    record { is = t; task-is = cc; rest = from-drop s n ∙ rw q (l .rest); some-bytes = omega arith; within = omega (arith, l .within) })
-    (λ t e. clash cc)
-
-pub line-broken : (c : Columns) (s : List ℕ) → valueLine c s ≡ Broken → beginsWithValues s ≡ false
-unfolding valueLine
-line-broken c s = by-cond (λ r. r ≡ Broken → beginsWithValues s ≡ false) (beginsWithValues s) (λ t e. clash cc) (λ t e. t)
+  pub line-read :
+      (c : Columns) → eachNamed c ≡ true → (n ≡ 0 → ⊥) → (k : Task)
+      → k ≡ record { period = getD vs (c .period) 0; budget = getD vs (c .budget) 0; deadline = getD vs (c .deadline) 0 } → LineRead c s k n
+  unfolding beginsWithValues taskOf
+  line-read c named some k e =
+      by-test (beginsWithValues s)
+      (λ t.
+      let q : n ≡ length (before lineEnd s) + 1 = a .count ∙ rw t in
+      let l = here lineEnd s (and-left (has lineEnd s) (threeValues (before lineEnd s)) t) in
+      let b = columns-below c named in
+      let at = picked (before lineEnd s) in
+      record {
+        is = t;
+        task-is = rw (e, a .values t, at (c .period) (b .period), at (c .budget) (b .budget), at (c .deadline) (b .deadline));
+        rest = from-drop s n ∙ rw q (l .rest);
+        some-bytes = omega arith;
+        within = omega (arith, l .within);
+      })
+      (λ t. absurd (some (a .count ∙ rw t)))

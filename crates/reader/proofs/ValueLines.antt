@@ -1,75 +1,100 @@
--- One turn over the value lines. Others cite `Reading-on`, the state of the reading between two lines, with `begin` and `next`, and what the whole
--- reading is where it stops: `finish`, `too-many`, `bad-line` and `bad-task`.
+-- One turn over the value lines, whose numbers go to three lists. Others cite `Reading-on`, the state of the reading between two lines, with `begin`
+-- and `next`, and what the whole reading is where it stops: `no-task`, `finish`, `too-many`, `bad-line` and `bad-task`.
 use Prim.Native.Nat.{ℕ, zero, suc, _+_, _-_, _≤_, _<_}
 use native.Mathlib.Omega.{arith}
 use mathlib.Core.Path.{_≡_, refl, sym, _∙_}
 use mathlib.Core.Bool.{true, false}
 use mathlib.Core.List.{List}
-use lib.ListN.{length, set}
+use borrow.Author.Tests.{eq-eqb, ne-eqb}
+use lib.ListN.{length, set, replicate, length-set}
 use Rattle.laws.proofs.Parts.{from, from-length}
 use Rattle.tasks.specs.declared.task.Task.{Task}
-use Rattle.tasks.specs.declared.table.Table.{Table}
 use Rattle.tasks.specs.Limits.{maxTasks}
-use Rattle.tasks.specs.Refusals.{tooManyTasks, badValueLine, taskOutOfRange}
+use Rattle.tasks.specs.Refusals.{tooManyTasks, badValueLine, taskOutOfRange, noTask}
 use Rattle.tasks.specs.Task.{inRange}
 use Rattle.tasks.specs.Table.{emptyTable, withTask}
+use Rattle.tasks.specs.Numbers.{tasksFrom, tableFrom}
+use Rattle.tasks.proofs.Numbers.{Long, set-from, from-zeros}
 use Rattle.reader.specs.declared.names.Columns.{Columns}
-use Rattle.reader.specs.declared.values.ValueLine.the-variants.{Read, Broken}
 use Rattle.reader.specs.declared.Reading.{Reading}
-use Rattle.reader.specs.Reading.{refused, ended, valueLines}
+use Rattle.reader.specs.declared.numbers.Counted.{Counted}
+use Rattle.reader.specs.declared.numbers.Counted.the-variants.{Read, Refused}
+use Rattle.reader.specs.Reading.{refused, beginsWithValues, ended, valueLines}
+use Rattle.reader.specs.Parts.{readingFrom}
 use Rattle.text.proofs.LineLaws.{no-bytes, some-bytes}
-use Rattle.reader.specs.Parts.{valueLine}
-use Rattle.reader.proofs.ValueLine.{line-read, line-broken}
+use Rattle.reader.proofs.ValueLine.{LineRead}
 
--- between two lines: the table t has n tasks, and the rest s of the text settles the whole reading w
-pub record Reading-on (c : Columns) (w : Reading) (t : Table) (n : ℕ) (s : List ℕ) : Type 0 where
-  pub count : t .count ≡ n
+-- between two lines: the lists have the numbers of n tasks, and the rest s of the text settles the whole reading w
+pub record Reading-on (c : Columns) (w : Reading) (ps bs ds : List ℕ) (n : ℕ) (s : List ℕ) : Type 0 where
+  pub long : Long ps bs ds
   pub within : n ≤ maxTasks
-  pub left : w ≡ valueLines c (maxTasks - n) t s
+  pub left : w ≡ valueLines c (maxTasks - n) (tableFrom ps bs ds n) s
 
-pub begin : (c : Columns) (s : List ℕ) → Reading-on c (valueLines c maxTasks emptyTable s) emptyTable 0 s
-unfolding emptyTable
-begin c s = record { count = refl; within = omega arith; left = refl }
+pub begin :
+    (c : Columns) (s ps bs ds : List ℕ) → ps ≡ replicate maxTasks 0 → bs ≡ replicate maxTasks 0 → ds ≡ replicate maxTasks 0
+    → Reading-on c (valueLines c maxTasks emptyTable s) ps bs ds 0 s
+unfolding emptyTable tableFrom
+begin c s ps bs ds p b d =
+    rw (p, b, d) (record {
+      long = record { periods-long = refl; budgets-long = refl; deadlines-long = refl };
+      within = omega arith;
+      left = rw from-zeros;
+    })
 
-module _ (c : Columns) (w : Reading) (t : Table) (n : ℕ) (s : List ℕ) (on : Reading-on c w t n s) where
-  pub finish : length s ≤ 0 → ended t ≡ w
-  unfolding valueLines
-  finish h = sym (on .left ∙ at-end (maxTasks - n))
-    where
-      at-end : (m : ℕ) → valueLines c m t s ≡ ended t
-      at-end zero = rw (no-bytes s h)
-      at-end (suc m) = rw (no-bytes s h)
+module _ (c : Columns) (w : Reading) (ps bs ds : List ℕ) (n : ℕ) (s : List ℕ) (on : Reading-on c w ps bs ds n s) where
+  -- the reading that an answer says
+  abbrev Answered : Counted → Type 0
+  Answered r = readingFrom r (tasksFrom ps bs ds) ≡ w
+
+  stopped : (r : Counted) (number place : ℕ) → r ≡ Refused number place → refused number place ≡ w → Answered r
+  unfolding readingFrom
+  stopped r number place e stop = rw e stop
+
+  module _ (h : length s ≤ 0) where
+    at-end : (m : ℕ) → valueLines c m (tableFrom ps bs ds n) s ≡ ended (tableFrom ps bs ds n)
+    unfolding valueLines
+    at-end zero = rw (no-bytes s h)
+    at-end (suc m) = rw (no-bytes s h)
+
+    pub no-task : n ≡ 0 → (r : Counted) → r ≡ Refused noTask 0 → Answered r
+    unfolding ended tableFrom
+    no-task z r e = stopped r noTask 0 e (sym (on .left ∙ at-end (maxTasks - n) ∙ rw (eq-eqb n 0 z)))
+
+    pub finish : (n ≡ 0 → ⊥) → Answered (Read n)
+    unfolding ended tableFrom readingFrom
+    finish z = sym (on .left ∙ at-end (maxTasks - n) ∙ rw (ne-eqb n 0 z))
 
   module _ (h : 0 < length s) where
-    pub too-many : maxTasks ≤ n → refused tooManyTasks (n + 1) ≡ w
-    unfolding valueLines
-    too-many l = let z : maxTasks - n ≡ 0 = omega arith in sym (on .left ∙ rw (z, some-bytes s h, on .count))
+    pub too-many : maxTasks ≤ n → (r : Counted) → r ≡ Refused tooManyTasks (n + 1) → Answered r
+    unfolding valueLines tableFrom
+    too-many l r e = let z : maxTasks - n ≡ 0 = omega arith in stopped r tooManyTasks (n + 1) e (sym (on .left ∙ rw (z, some-bytes s h)))
 
     module _ (l : n < maxTasks) where
       more : maxTasks - n ≡ suc (maxTasks - (n + 1))
       more = omega arith
 
-      pub bad-line : valueLine c s ≡ Broken → refused badValueLine (n + 1) ≡ w
-      unfolding valueLines
-      bad-line e = sym (on .left ∙ rw (more, some-bytes s h, line-broken c s e, on .count))
+      pub bad-line : beginsWithValues s ≡ false → (r : Counted) → r ≡ Refused badValueLine (n + 1) → Answered r
+      unfolding valueLines tableFrom
+      bad-line b r e = stopped r badValueLine (n + 1) e (sym (on .left ∙ rw (more, some-bytes s h, b)))
 
-      module _ (k : Task) (m : ℕ) (e : valueLine c s ≡ Read k m) where
-        pub line-fits : m ≤ length s
-        line-fits = line-read c s k m e .within
-
+      module _ (k : Task) (m : ℕ) (d : LineRead c s k m) where
         pub shorter : length (from s m) < length s
-        shorter = let d = line-read c s k m e in omega (arith, d .some-bytes, d .within, from-length s m)
+        shorter = omega (arith, d .some-bytes, d .within, from-length s m)
 
-        pub bad-task : inRange k ≡ false → refused taskOutOfRange (n + 1) ≡ w
-        unfolding valueLines
-        bad-task r = let d = line-read c s k m e in sym (on .left ∙ rw (more, some-bytes s h, d .is, d .task-is, r, on .count))
+        pub bad-task : inRange k ≡ false → (r : Counted) → r ≡ Refused taskOutOfRange (n + 1) → Answered r
+        unfolding valueLines tableFrom
+        bad-task f r e = stopped r taskOutOfRange (n + 1) e (sym (on .left ∙ rw (more, some-bytes s h, d .is, d .task-is, f)))
 
-        pub next : inRange k ≡ true → Reading-on c w (record { count = n + 1; tasks = set (t .tasks) n k }) (n + 1) (from s m)
-        unfolding valueLines withTask
+        pub next : inRange k ≡ true → Reading-on c w (set ps n (k .period)) (set bs n (k .budget)) (set ds n (k .deadline)) (n + 1) (from s m)
+        unfolding valueLines withTask tableFrom
         next r =
-            let d = line-read c s k m e in
             record {
-              count = refl;
+              long =
+                  record {
+                    periods-long = length-set ps n (k .period) ∙ on .long .periods-long;
+                    budgets-long = length-set bs n (k .budget) ∙ on .long .budgets-long;
+                    deadlines-long = length-set ds n (k .deadline) ∙ on .long .deadlines-long;
+                  };
               within = omega arith;
-              left = on .left ∙ rw (more, some-bytes s h, d .is, d .task-is, r, on .count, d .rest);
+              left = on .left ∙ rw (more, some-bytes s h, d .is, d .task-is, r, d .rest, set-from ps bs ds (on .long) n k l);
             }

@@ -1,25 +1,19 @@
 // A table from text: document 01, "The table as text".
-use crate::names::Columns;
-use crate::names::NamesLine;
-use crate::values::ValueLine;
+use crate::numbers::Counted;
 use tasks::limits::MAX_TASKS;
-use tasks::limits::MAX_TEXT_LENGTH;
 use tasks::outcome::Outcome;
-use tasks::refusals::BAD_NAMES_LINE;
-use tasks::refusals::BAD_VALUE_LINE;
-use tasks::refusals::NO_TASK;
-use tasks::refusals::TASK_OUT_OF_RANGE;
-use tasks::refusals::TEXT_TOO_LONG;
-use tasks::refusals::TOO_MANY_TASKS;
 use tasks::table::Table;
+use tasks::task::Task;
 
 mod names;
+pub mod numbers;
 mod values;
 
 ghost use mathlib.Core.Path.{_≡_};
+ghost use lib.ListN.{length};
 ghost use Rattle.tasks.specs.Limits.{maxTasks};
-ghost use Rattle.tasks.specs.Table.{emptyTable};
-ghost use Rattle.reader.specs.Reading.{reading, refused, ended, valueLines};
+ghost use Rattle.tasks.specs.Numbers.{tableFrom};
+ghost use Rattle.reader.specs.Reading.{reading, refused};
 
 // What reading a text gives: the table and Done, or a table of zeros and the refusal.
 pub struct Reading {
@@ -38,54 +32,44 @@ fn refusal(number: u32, place: u32) -> Reading
     }
 }
 
-// The reading of a text that nothing follows: the tasks so far, if there is one.
-fn end(table: Table) -> Reading
-    ensures { λ r. ⌜ r ≡ ended table ⌝ }
-{
-    if table.count == 0 {
-        return refusal(NO_TASK, 0);
-    }
-    Reading {
-        table,
-        outcome: Outcome::Done,
-    }
-}
-
-// Value lines in turn: each line's reader gets the part of the text after the line before.
-fn value_lines(text: &[u8], columns: Columns) -> Reading
-    ensures { λ r. ⌜ r ≡ valueLines columns maxTasks emptyTable (now (text .entry)) ⌝ }
+// The table of so many tasks whose numbers stand in three arrays.
+fn table_from<'a>(
+    count: usize,
+    periods: &'a [u32; MAX_TASKS],
+    budgets: &'a [u32; MAX_TASKS],
+    deadlines: &'a [u32; MAX_TASKS],
+) -> Table
+    ensures { λ r. ⌜ r ≡ tableFrom (now (periods .entry)) (now (budgets .entry)) (now (deadlines .entry)) count ⌝ }
 {
     let mut table = Table::empty();
-    let mut count: usize = 0;
-    let mut rest = text;
-    while 0 < rest.len() {
-        let place = count as u32 + 1;
-        if MAX_TASKS <= count {
-            return refusal(TOO_MANY_TASKS, place);
-        }
-        let ValueLine::Read { task, length } = values::value_line(rest, columns) else {
-            return refusal(BAD_VALUE_LINE, place);
+    table.count = count;
+    let mut i: usize = 0;
+    while i < MAX_TASKS {
+        table.tasks[i] = Task {
+            period: periods[i],
+            budget: budgets[i],
+            deadline: deadlines[i],
         };
-        if !task.in_range() {
-            return refusal(TASK_OUT_OF_RANGE, place);
-        }
-        table.tasks[count] = task;
-        count += 1;
-        table.count = count;
-        rest = &rest[length..];
+        i += 1;
     }
-    end(table)
+    table
 }
 
 // The table of a text, or the refusal's number and place.
 pub fn read(text: &[u8]) -> Reading
     ensures { λ r. ⌜ r ≡ reading (now (text .entry)) ⌝ }
 {
-    if MAX_TEXT_LENGTH < text.len() {
-        return refusal(TEXT_TOO_LONG, 0);
+    let mut periods = [0u32; MAX_TASKS];
+    let mut budgets = [0u32; MAX_TASKS];
+    let mut deadlines = [0u32; MAX_TASKS];
+    match numbers::fill(text, &mut periods, &mut budgets, &mut deadlines) {
+        Counted::Read { count } => {
+            let table = table_from(count, &periods, &budgets, &deadlines);
+            Reading {
+                table,
+                outcome: Outcome::Done,
+            }
+        }
+        Counted::Refused { number, place } => refusal(number, place),
     }
-    let NamesLine::Read { columns, length } = names::names_line(text) else {
-        return refusal(BAD_NAMES_LINE, 0);
-    };
-    value_lines(&text[length..], columns)
 }

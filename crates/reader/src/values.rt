@@ -1,66 +1,96 @@
 // Value lines: three values, and the task that they make.
 use crate::names::Columns;
 use tasks::task::Task;
-use text::fields;
-use text::fields::Numbers;
+ghost use Prim.Native.Nat.{_+_, _<_};
 ghost use mathlib.Core.Path.{_≡_};
+ghost use mathlib.Core.Bool.{true, cond, _&&_};
 ghost use mathlib.Core.List.{[], _∷_};
-ghost use lib.ListN.{getD};
-ghost use Rattle.reader.specs.Parts.{valueLine};
+ghost use lib.ListN.{length, getD, set};
+ghost use Rattle.text.specs.Lines.{lineEnd, has, before, field};
+ghost use Rattle.text.specs.Number.{decimal};
+ghost use Rattle.reader.specs.Value.{isValue};
+ghost use Rattle.reader.specs.Names.{eachNamed};
+ghost use Rattle.reader.specs.Reading.{beginsWithValues};
 
 // The longest value, in digits.
 const MAX_DIGITS: usize = 7;
 
-// The largest number of so many digits: no value is larger.
-const MAX_VALUE: u32 = 9_999_999;
-
-// A value line with its byte 10 is `length` bytes long.
-pub enum ValueLine {
-    Read { task: Task, length: usize },
-    Broken,
-}
-
-// The value at a column of three, from 0: 0 at no column.
-fn value_at(column: usize, first: u32, second: u32, third: u32) -> u32
-    ensures { λ r. ⌜ r ≡ getD (first ∷ second ∷ third ∷ []) column 0 ⌝ }
+// Puts the value that stands before the first byte `end` of a text into one of three places: how many bytes the value has. Where no value stands
+// there, or it is not ended, that is 0, and nothing is put.
+fn value_up_to(text: &[u8], end: u8, values: &mut [u32; 3], place: usize) -> usize
+    requires { ⌜ place < 3 ⌝ }
+    ensures { λ r. let s = now (text .entry) in ⌜ r ≡ cond (has end s && isValue (before end s)) (length (before end s)) 0 ⌝ }
+    ensures { λ _. let s = now (text .entry) in
+        ⌜ now (values .exit)
+        ≡ cond (has end s && isValue (before end s)) (set (now (values .entry)) place (decimal (before end s))) (now (values .entry)) ⌝ }
 {
-    if column == 0 {
-        return first;
-    }
-    if column == 1 {
-        return second;
-    }
-    if column == 2 {
-        return third;
+    let mut number: u32 = 0;
+    let mut i: usize = 0;
+    while i < text.len() {
+        let byte = text[i];
+        if byte == end {
+            if i == 0 {
+                return 0;
+            }
+            values[place] = number;
+            return i;
+        }
+        if byte < b'0' {
+            return 0;
+        }
+        if b'9' < byte {
+            return 0;
+        }
+        if MAX_DIGITS <= i {
+            return 0;
+        }
+        if number == 0 {
+            if 0 < i {
+                return 0;
+            }
+        }
+        number = number * 10 + (byte - b'0') as u32;
+        i += 1;
     }
     0
 }
 
-// The value line that a text begins with.
-pub fn value_line(text: &[u8], columns: Columns) -> ValueLine
-    ensures { λ r. ⌜ r ≡ valueLine columns (now (text .entry)) ⌝ }
+// Puts the values of the value line that a text begins with: how many bytes the line has with its byte 10. Where the text begins with none, 0.
+pub(crate) fn value_line(text: &[u8], values: &mut [u32; 3]) -> usize
+    requires { ⌜ length (now values) ≡ 3 ⌝ }
+    ensures { λ r. let s = now (text .entry) in ⌜ r ≡ cond (beginsWithValues s) (length (before lineEnd s) + 1) 0 ⌝ }
+    ensures { λ _. let s = now (text .entry) in let line = before lineEnd s in
+        ⌜ (beginsWithValues s ≡ true → now (values .exit) ≡ decimal (field 0 line) ∷ decimal (field 1 line) ∷ decimal (field 2 line) ∷ []) ⌝ }
 {
-    let Numbers::Three {
-        first,
-        second,
-        third,
-        length,
-    } = fields::three_numbers(text, MAX_DIGITS, MAX_VALUE)
-    else {
-        return ValueLine::Broken;
-    };
-    if text.len() <= length {
-        return ValueLine::Broken;
+    let first = value_up_to(text, b' ', values, 0);
+    if first == 0 {
+        return 0;
     }
-    let period = value_at(columns.period, first, second, third);
-    let budget = value_at(columns.budget, first, second, third);
-    let deadline = value_at(columns.deadline, first, second, third);
-    ValueLine::Read {
-        task: Task {
-            period,
-            budget,
-            deadline,
-        },
-        length: length + 1,
+    let rest = &text[first + 1..];
+    let second = value_up_to(rest, b' ', values, 1);
+    if second == 0 {
+        return 0;
+    }
+    let last = &rest[second + 1..];
+    let third = value_up_to(last, b'\n', values, 2);
+    if third == 0 {
+        return 0;
+    }
+    first + 1 + second + 1 + third + 1
+}
+
+// The task whose numbers stand in the columns of a value line.
+pub(crate) fn task_of(values: &[u32; 3], columns: Columns) -> Task
+    requires { ⌜ eachNamed columns ≡ true ⌝ }
+    ensures { λ r. let vs = now (values .entry) in
+        ⌜ r ≡ record { period = getD vs (columns .period) 0; budget = getD vs (columns .budget) 0; deadline = getD vs (columns .deadline) 0 } ⌝ }
+{
+    let period = columns.period;
+    let budget = columns.budget;
+    let deadline = columns.deadline;
+    Task {
+        period: values[period],
+        budget: values[budget],
+        deadline: values[deadline],
     }
 }

@@ -3,3 +3,4 @@ pub mod Range
 pub mod Small
 pub mod TaskSetLaws
 pub mod OutcomeLaws
+pub mod Numbers

@@ -6,3 +6,4 @@ pub mod Check
 pub mod Outcome
 pub mod TaskSet
 pub mod Written
+pub mod Numbers

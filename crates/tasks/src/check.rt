@@ -8,10 +8,15 @@ use crate::refusals::TASK_OUT_OF_RANGE;
 use crate::refusals::TOO_MANY_TASKS;
 use crate::table::Table;
 use crate::task::Task;
-ghost use Prim.Native.Nat.{_≤_};
+ghost use Prim.Native.Nat.{_+_, _≤_};
 ghost use mathlib.Core.Path.{_≡_};
+ghost use mathlib.Core.Bool.{cond, not};
+ghost use lib.Dec.{eqb};
+ghost use Rattle.tasks.specs.declared.outcome.Outcome.the-variants.{Done, Refused};
 ghost use Rattle.tasks.specs.Limits.{maxTasks};
-ghost use Rattle.tasks.specs.Check.{firstOutOfRange, checked};
+ghost use Rattle.tasks.specs.Refusals.{tooManyTasks, noTask, taskOutOfRange, coresOutOfRange};
+ghost use Rattle.tasks.specs.Numbers.{tasksFrom, tableFrom};
+ghost use Rattle.tasks.specs.Check.{firstOutOfRange, coresInRange, checked};
 
 // The number, from 1, of the first task that is out of range: 0 where there is none.
 fn first_out_of_range(tasks: [Task; MAX_TASKS], count: usize) -> u32
@@ -29,25 +34,43 @@ fn first_out_of_range(tasks: [Task; MAX_TASKS], count: usize) -> u32
     0
 }
 
-// Done, or the refusal of this table or of this number of cores.
-pub fn check(table: Table, cores: u32) -> Outcome
-    ensures { λ r. ⌜ r ≡ checked table cores ⌝ }
+// The same of the tasks whose numbers stand in three arrays.
+fn first_number_out_of_range<'a>(
+    periods: &'a [u32; MAX_TASKS],
+    budgets: &'a [u32; MAX_TASKS],
+    deadlines: &'a [u32; MAX_TASKS],
+    count: usize,
+) -> u32
+    requires { ⌜ count ≤ maxTasks ⌝ }
+    ensures { λ r. ⌜ r ≡ firstOutOfRange (tasksFrom (now (periods .entry)) (now (budgets .entry)) (now (deadlines .entry))) 0 count ⌝ }
 {
-    let count = table.count;
-    if MAX_TASKS < count {
-        return Outcome::Refused {
-            number: TOO_MANY_TASKS,
-            place: MAX_TASKS as u32 + 1,
+    let mut i: usize = 0;
+    while i < count {
+        let task = Task {
+            period: periods[i],
+            budget: budgets[i],
+            deadline: deadlines[i],
         };
+        if !task.in_range() {
+            return i as u32 + 1;
+        }
+        i += 1;
     }
+    0
+}
+
+// Past number 3: Done, or the refusal by how many tasks there are, by the first of them that is out of range, or by the cores.
+fn check_rest(count: usize, place: u32, cores: u32) -> Outcome
+    ensures { λ r. ⌜ r
+        ≡ cond (eqb count 0) (Refused noTask 0)
+        (cond (not (eqb place 0)) (Refused taskOutOfRange place) (cond (not (coresInRange cores)) (Refused coresOutOfRange 0) Done)) ⌝ }
+{
     if count == 0 {
         return Outcome::Refused {
             number: NO_TASK,
             place: 0,
         };
     }
-    let tasks = table.tasks;
-    let place = first_out_of_range(tasks, count);
     if place != 0 {
         return Outcome::Refused {
             number: TASK_OUT_OF_RANGE,
@@ -67,4 +90,44 @@ pub fn check(table: Table, cores: u32) -> Outcome
         };
     }
     Outcome::Done
+}
+
+// The refusal of a table of more than 32 tasks.
+fn too_many() -> Outcome
+    ensures { λ r. ⌜ r ≡ Refused tooManyTasks (maxTasks + 1) ⌝ }
+{
+    Outcome::Refused {
+        number: TOO_MANY_TASKS,
+        place: MAX_TASKS as u32 + 1,
+    }
+}
+
+// Done, or the refusal of this table or of this number of cores.
+pub fn check(table: Table, cores: u32) -> Outcome
+    ensures { λ r. ⌜ r ≡ checked table cores ⌝ }
+{
+    let count = table.count;
+    if MAX_TASKS < count {
+        return too_many();
+    }
+    let tasks = table.tasks;
+    let place = first_out_of_range(tasks, count);
+    check_rest(count, place, cores)
+}
+
+// The same of the table with the numbers of three arrays. Nothing is copied.
+pub fn check_numbers<'a>(
+    periods: &'a [u32; MAX_TASKS],
+    budgets: &'a [u32; MAX_TASKS],
+    deadlines: &'a [u32; MAX_TASKS],
+    count: usize,
+    cores: u32,
+) -> Outcome
+    ensures { λ r. ⌜ r ≡ checked (tableFrom (now (periods .entry)) (now (budgets .entry)) (now (deadlines .entry)) count) cores ⌝ }
+{
+    if MAX_TASKS < count {
+        return too_many();
+    }
+    let place = first_number_out_of_range(periods, budgets, deadlines, count);
+    check_rest(count, place, cores)
 }

@@ -6,15 +6,8 @@ use lib.Dec.{eqb}
 use lib.ListN.{length}
 use Rattle.text.specs.Lines.{lineEnd, space, before, after, fieldCount, field}
 use Rattle.text.specs.Number.{isNumber, decimal}
-use Rattle.text.specs.declared.fields.Fields.{Fields}
-use Rattle.text.specs.declared.fields.Fields.the-variants as Fields
 use Rattle.text.specs.declared.fields.Numbers.{Numbers}
 use Rattle.text.specs.declared.fields.Numbers.the-variants as Numbers
-
--- where the first and the second field of a line of three end, counted in bytes from the line's start; any other line is Other
-unfoldable pub threeFields : List ℕ → Fields
-threeFields l =
-    cond (eqb (fieldCount l) 3) (Fields.Three (length (field 0 l)) (length (field 0 l) + 1 + length (field 1 l))) Fields.Other
 
 -- whether a line is three numbers, each of at most so many digits and at most `largest`
 unfoldable pub areThree : (digits largest : ℕ) → List ℕ → Bool

@@ -1,15 +1,8 @@
 // Lines of three fields, with one space between them.
-use crate::bytes;
 use crate::number;
 use crate::number::Before;
 ghost use mathlib.Core.Path.{_≡_};
-ghost use Rattle.text.specs.Fields.{threeFields, threeNumbers};
-
-// The first field ends at `first` and the second at `second`: each begins after the space that ends the one before.
-pub enum Fields {
-    Three { first: usize, second: usize },
-    Other,
-}
+ghost use Rattle.text.specs.Fields.{threeNumbers};
 
 // The numbers of a line of three fields, in their order. The line is `length` bytes long.
 pub enum Numbers {
@@ -20,29 +13,6 @@ pub enum Numbers {
         length: usize,
     },
     Broken,
-}
-
-// The fields of a line of three, which stands here without its byte 10.
-pub fn three_fields(line: &[u8]) -> Fields
-    ensures { λ r. ⌜ r ≡ threeFields (now (line .entry)) ⌝ }
-{
-    let first = bytes::find(line, b' ');
-    if line.len() <= first {
-        return Fields::Other;
-    }
-    let rest = &line[first + 1..];
-    let length = bytes::find(rest, b' ');
-    if rest.len() <= length {
-        return Fields::Other;
-    }
-    let third = &rest[length + 1..];
-    if bytes::find(third, b' ') < third.len() {
-        return Fields::Other;
-    }
-    Fields::Three {
-        first,
-        second: first + 1 + length,
-    }
 }
 
 // The numbers of the first line of a text, which ends before the first byte 10 or where the text does.

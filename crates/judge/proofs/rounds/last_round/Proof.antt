@@ -18,7 +18,7 @@ use Rattle.judge.proofs.rounds.last_round.Statement.{statement}
 use Rattle.judge.proofs.rounds.last_round.Tie as tie
 
 abbrev Inv-loop : tie.InvT-loop
-Inv-loop periods budgets deadlines inverses sums₀ count cores before₀ slacks₀ changed₀ made₀ sums before slacks changed made =
+Inv-loop periods budgets deadlines sums₀ count cores before₀ slacks₀ changed₀ made₀ sums before slacks changed made =
     (1 ≤ made)
     × (made ≤ 64)
     × (length sums ≡ 32)
@@ -26,12 +26,12 @@ Inv-loop periods budgets deadlines inverses sums₀ count cores before₀ slacks
     × AtRound (listed periods budgets deadlines count) cores (made - 1) before sums slacks changed
 
 abbrev μ-loop : tie.MeasureT-loop
-μ-loop periods budgets deadlines inverses sums₀ count cores before₀ slacks₀ changed₀ made₀ sums before slacks changed made = 64 - made
+μ-loop periods budgets deadlines sums₀ count cores before₀ slacks₀ changed₀ made₀ sums before slacks changed made = 64 - made
 
 next-slacks-requires : tie.Need-next-slacks-requires Inv-loop μ-loop
 next-slacks-requires c κs =
     let p = c .before .before .pre in
-    ((p .0 .0, refl, p .0 .2, p .0 .3), λ k h. let r = p .1 .0 k h in (r .1, omega arith, omega (arith, p .1 .1 .1 k h)))
+    ((p .0 .0, refl, p .0 .2, p .0 .3), λ k h. let r = p .1 .0 k h in (r .1, omega arith, omega (arith, p .1 .1 k h)))
 
 -- The tasks that the arrays list, which are in range.
 abbrev tasksIn : tie.Start Inv-loop μ-loop → TaskSet
@@ -49,7 +49,7 @@ loop-holds c =
     let slacks = c .next-slacks .last .1 .1 .1 .0 in
     let computed : Computed set m (slackAfter set m 0) (replicate 32 0) (s .args .sums .now) slacks (c .next-slacks .result)
     = record {
-      sums-are = λ k h. s .pre .1 .1 .1 k h ∙ ap (λ (n : ℕ). n + ownPart (set .deadline k) (set .budget k)) (first-sum set m k h);
+      sums-are = λ k h. s .pre .1 .1 k h ∙ ap (λ (n : ℕ). n + ownPart (set .deadline k) (set .budget k)) (first-sum set m k h);
       slacks-are = e .1 .0;
       changed-is = e .1 .1;
     } in (
@@ -90,10 +90,7 @@ next-sums-requires c κs =
       (s .pre .0 .0, v .inv .2),
       (
         s .pre .1 .0,
-        (
-          s .pre .1 .1 .0,
-          λ k h. held .sums-are k h ∙ sym (next-sum (tasksIn s) (s .args .cores) (well s) (v .made - 1) (v .before) (held .before-are) k h),
-        ),
+        λ k h. held .sums-are k h ∙ sym (next-sum (tasksIn s) (s .args .cores) (well s) (v .made - 1) (v .before) (held .before-are) k h),
       ),
     )
 
@@ -103,7 +100,7 @@ sums-next : (c : tie.After-next-sums Inv-loop μ-loop) →
     let s = l .before .before .before .before in
     let set = tasksIn s in
     (k : ℕ) → k < s .args .count →
-    getD (c .next-sums .last .1 .1 .1 .1 .1 .1 .0) k 0
+    getD (c .next-sums .last .1 .1 .1 .1 .1 .0) k 0
     ≡ windowSum set (slackAfter set (s .args .cores) (suc (l .loop .made - 1))) k + ownPart (set .deadline k) (set .budget k)
 sums-next c k h =
     let l = c .before .before .before .before .before .before in
@@ -129,7 +126,7 @@ loop-again c =
     let v = l .loop in
     let r = suc (v .made - 1) in
     let e = c .next-slacks2 .ensures in
-    let sums = d .next-sums .last .1 .1 .1 .1 .1 .1 .0 in
+    let sums = d .next-sums .last .1 .1 .1 .1 .1 .0 in
     let slacks = c .next-slacks2 .last .1 .1 .1 .0 in
     let computed : Computed set m (slackAfter set m r) (v .slacks) sums slacks (c .next-slacks2 .result)
     = record { sums-are = sums-next d; slacks-are = e .1 .0; changed-is = e .1 .1 } in

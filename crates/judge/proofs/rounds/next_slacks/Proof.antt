@@ -24,7 +24,7 @@ slackIs budgets deadlines sums cores k =
     newSlack cores (getD deadlines k 0 - getD budgets k 0) (getD sums k 0 - ownPart (getD deadlines k 0) (getD budgets k 0))
 
 abbrev Inv-loop : tie.InvT-loop
-Inv-loop budgets deadlines sums slacks₀ count cores inverse changed₀ k₀ slacks changed k =
+Inv-loop budgets deadlines sums slacks₀ count cores changed₀ k₀ slacks changed k =
     (k ≤ count)
     × (length slacks ≡ 32)
     × (slacks ≡ replaced k (slackIs budgets deadlines sums cores) slacks₀)
@@ -32,21 +32,21 @@ Inv-loop budgets deadlines sums slacks₀ count cores inverse changed₀ k₀ sl
     × (changed ≤ k)
 
 abbrev μ-loop : tie.MeasureT-loop
-μ-loop budgets deadlines sums slacks₀ count cores inverse changed₀ k₀ slacks changed k = count - k
+μ-loop budgets deadlines sums slacks₀ count cores changed₀ k₀ slacks changed k = count - k
 
 loop-holds : tie.Need-loop-holds Inv-loop μ-loop
 unfolding replaced sumTo
-loop-holds c = (omega arith, c .before .pre .0 .1, refl, refl, omega arith)
+loop-holds c = (omega arith, c .pre .0 .1, refl, refl, omega arith)
 
 slack-of-requires : tie.Need-slack-of-requires Inv-loop μ-loop
 slack-of-requires c κs =
     let l = c .before .before .before .before in
-    let p = l .before .before .pre in
+    let p = l .before .pre in
     let r = p .1 (l .loop .k) (omega arith) in
-    ((r .0, r .1, p .0 .2, p .0 .3), (l .before .inverse-of .ensures, r .2))
+    ((r .0, r .1, p .0 .2, p .0 .3), r .2)
 
 -- The slack of task k is still that before.
-slack-before : (l : tie.At-loop Inv-loop μ-loop) → getD (l .loop .slacks) (l .loop .k) 0 ≡ getD (l .before .before .args .slacks .now) (l .loop .k) 0
+slack-before : (l : tie.At-loop Inv-loop μ-loop) → getD (l .loop .slacks) (l .loop .k) 0 ≡ getD (l .before .args .slacks .now) (l .loop .k) 0
 slack-before l = rw (l .loop .inv .2) (replaced-past _ _ 0 (l .loop .k) (l .loop .k) (omega arith))
 
 loop-again : tie.Need-loop-again Inv-loop μ-loop
@@ -54,7 +54,7 @@ unfolding sumTo
 loop-again c =
     let s = c .before .before in
     let l = s .before .before .before .before .before in
-    let a = l .before .before .args in
+    let a = l .before .args in
     let k = l .loop .k in
     let old = getD (a .slacks .now) k 0 in
     let new = slackIs (a .budgets .now) (a .deadlines .now) (a .sums .now) (a .cores) k in
@@ -73,7 +73,7 @@ loop-again c =
 returns : tie.Need-returns Inv-loop μ-loop
 returns c =
     let l = c .before in
-    let a = l .before .before .args in
+    let a = l .before .args in
     let e : l .loop .k ≡ a .count = omega arith in
     let is : (k : ℕ) → k < a .count → getD (l .loop .slacks) k 0 ≡ slackIs (a .budgets .now) (a .deadlines .now) (a .sums .now) (a .cores) k =
     λ k h. rw (l .loop .inv .2) (replaced-at _ _ 0 (l .loop .k) k (omega arith) (omega arith))
@@ -88,7 +88,6 @@ next-slacks-spec =
     (tie.spec
     Inv-loop
     μ-loop
-    (λ c κs. omega arith)
     loop-holds
     (λ c. omega arith)
     (λ c. omega arith)

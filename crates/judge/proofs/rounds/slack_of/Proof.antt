@@ -1,11 +1,10 @@
 -- `slack_of` meets its contract: 0 where the sum without the own part reaches, and else the spare less its quotient by the cores.
-use Prim.Native.Nat.{_+_, _-_, _*_, _/_, _≤_, _<_, min}
-use native.Mathlib.Nat.{mul-le-mul, mul-le-mul-right, div-le-self, div-le-of-le-mul}
+use Prim.Native.Nat.{_-_, _*_, _≤_, min}
+use native.Mathlib.Nat.{mul-le-mul-right, div-le-of-le-mul}
 use native.Mathlib.Omega.{arith}
 use mathlib.Core.Path.{_≡_, sym}
 use borrow.Author.Needs.{needs}
 use Rattle.edzl.proofs.SlackLaws.{new-none, new-some}
-use Rattle.judge.proofs.Inverse.{scale, exact}
 use Rattle.judge.proofs.rounds.slack_of.Statement.{statement}
 use Rattle.judge.proofs.rounds.slack_of.Tie as tie
 
@@ -23,41 +22,13 @@ returns c =
     (new-none (a .cores) (a .deadline - a .budget) (a .sum - min (a .budget) (a .deadline - a .budget))
     (omega (arith, c .if1 .taken, c .before .own-part .ensures)))
 
--- Past the test the sum over the others is below that, and its product with the inverse has the quotient by the cores.
-below : (c : tie.Else1) → c .before .before .args .sum - c .before .own-part .result < 16_000_000
-below c = omega (arith, small (c .before .before), c .if1 .left)
-
-divided : (c : tie.Else1) →
-    let a = c .before .before .args in
-    let others = a .sum - c .before .own-part .result in
-    others * a .inverse / scale ≡ others / a .cores
-divided c =
-    let s = c .before .before in
-    let a = s .args in
-    let others = a .sum - c .before .own-part .result in
-    let within : others ≤ 16_000_000 = omega (arith, below c) in
-    rw (s .pre .1 .0) (exact (a .cores) others (s .pre .0 .2) (omega (arith, mul-le-mul within (s .pre .0 .3))))
-
-mul-result : tie.Need-mul-result
-mul-result c =
-    let s = c .before .before in
-    let a = s .args in
-    let within : a .sum - c .before .own-part .result ≤ 16_000_000 = omega (arith, below c) in
-    let inverse-small : a .inverse ≤ scale + 1 = rw (s .pre .1 .0) (omega (arith, div-le-self scale (a .cores))) in
-    omega (arith, mul-le-mul within inverse-small)
-
-cast-result : tie.Need-cast-result
-cast-result c =
-    let a = c .before .before .args in
-    rw (divided c) (omega (arith, below c, div-le-self (a .sum - c .before .own-part .result) (a .cores)))
-
 sub-result : tie.Need-sub-result
-sub-result c = rw (divided c) (div-le-of-le-mul (c .before .before .args .cores) (omega (arith, c .if1 .left)))
+sub-result c = div-le-of-le-mul (c .before .before .args .cores) (omega (arith, c .if1 .left))
 
 returns-2 : tie.Need-returns-2
 returns-2 c =
     let a = c .before .before .args in
-    rw (divided c, c .before .own-part .ensures)
+    rw (c .before .own-part .ensures)
     (sym
     (new-some (a .cores) (a .deadline - a .budget) (a .sum - min (a .budget) (a .deadline - a .budget))
     (omega (arith, c .if1 .left, c .before .own-part .ensures))))
@@ -69,10 +40,8 @@ slack-of-spec =
     (λ c. search needs)
     (λ c κs. search needs)
     (λ c. search needs)
-    (λ c. search needs)
     mul-if1
     returns
-    mul-result
-    cast-result
+    (λ c. omega arith)
     sub-result
     returns-2)

@@ -11,7 +11,7 @@ use Rattle.judge.proofs.sums.move_parts.Statement.{statement}
 use Rattle.judge.proofs.sums.move_parts.Tie as tie
 
 abbrev Inv-loop : tie.InvT-loop
-Inv-loop period budget inverse before slack budgets deadlines sums₀ count k₀ sums k =
+Inv-loop period budget before slack budgets deadlines sums₀ count inverse k₀ sums k =
     (k ≤ count)
     × (length sums ≡ 32)
     × (sums
@@ -23,38 +23,38 @@ Inv-loop period budget inverse before slack budgets deadlines sums₀ count k₀
     sums₀)
 
 abbrev μ-loop : tie.MeasureT-loop
-μ-loop period budget inverse before slack budgets deadlines sums₀ count k₀ sums k = count - k
+μ-loop period budget before slack budgets deadlines sums₀ count inverse k₀ sums k = count - k
 
 loop-holds : tie.Need-loop-holds Inv-loop μ-loop
 unfolding replaced
-loop-holds c = (omega arith, c .pre .1 .0 .1, refl)
+loop-holds c = (omega arith, c .before .pre .1 .0 .1, refl)
 
 sub-spare : tie.Need-sub-spare Inv-loop μ-loop
 sub-spare c =
     let l = c .before .before .before in
-    l .before .pre .1 .1 .0 (l .loop .k) (omega arith)
+    l .before .before .pre .1 .1 .0 (l .loop .k) (omega arith)
 
 -- A shortened window is no longer than a period may be.
 part-of-requires : tie.Need-part-of-requires Inv-loop μ-loop
 part-of-requires c κs =
     let l = c .before .before .before .before in
-    let p = l .before .pre in
-    ((p .0 .0, p .0 .1, p .0 .2, omega (arith, p .1 .1 .1 .0 (l .loop .k) (omega arith), c .shortened .ensures)), p .0 .3)
+    let p = l .before .before .pre in
+    ((p .0 .0, p .0 .1, p .0 .2, omega (arith, p .1 .1 .1 .0 (l .loop .k) (omega arith), c .shortened .ensures)), l .before .inverse-of .ensures)
 
 part-of-requires-2 : tie.Need-part-of-requires-2 Inv-loop μ-loop
 part-of-requires-2 c κs =
     let l = c .before .before .before .before .before .before in
-    let p = l .before .pre in
-    ((p .0 .0, p .0 .1, p .0 .2, omega (arith, p .1 .1 .1 .0 (l .loop .k) (omega arith), c .shortened2 .ensures)), p .0 .3)
+    let p = l .before .before .pre in
+    ((p .0 .0, p .0 .1, p .0 .2, omega (arith, p .1 .1 .1 .0 (l .loop .k) (omega arith), c .shortened2 .ensures)), l .before .inverse-of .ensures)
 
 -- The sum of task k is still that before.
-sum-before : (l : tie.At-loop Inv-loop μ-loop) → getD (l .loop .sums) (l .loop .k) 0 ≡ getD (l .before .args .sums .now) (l .loop .k) 0
+sum-before : (l : tie.At-loop Inv-loop μ-loop) → getD (l .loop .sums) (l .loop .k) 0 ≡ getD (l .before .before .args .sums .now) (l .loop .k) 0
 sum-before l = rw (l .loop .inv .2) (replaced-past _ _ 0 (l .loop .k) (l .loop .k) (omega arith))
 
 -- The two parts are those of the shortened windows.
 old-part : (c : tie.After-part-of Inv-loop μ-loop) →
     let l = c .before .before .before .before .before in
-    let a = l .before .args in
+    let a = l .before .before .args in
     let k = l .loop .k in
     c .part-of .result
     ≡ part (a .period) (a .budget) (getD (a .deadlines .now) k 0 - a .before) (getD (a .deadlines .now) k 0) (getD (a .budgets .now) k 0)
@@ -62,7 +62,7 @@ old-part c = c .part-of .ensures ∙ rw (c .before .shortened .ensures)
 
 new-part : (c : tie.After-part-of2 Inv-loop μ-loop) →
     let l = c .before .before .before .before .before .before .before in
-    let a = l .before .args in
+    let a = l .before .before .args in
     let k = l .loop .k in
     c .part-of2 .result
     ≡ part (a .period) (a .budget) (getD (a .deadlines .now) k 0 - a .slack) (getD (a .deadlines .now) k 0) (getD (a .budgets .now) k 0)
@@ -72,13 +72,13 @@ sub-sums : tie.Need-sub-sums Inv-loop μ-loop
 sub-sums c =
     let d = c .before in
     let l = d .before .before .before .before .before .before .before in
-    omega (arith, old-part (d .before .before), sum-before l, l .before .pre .1 .1 .1 .1 (l .loop .k) (omega arith))
+    omega (arith, old-part (d .before .before), sum-before l, l .before .before .pre .1 .1 .1 .1 (l .loop .k) (omega arith))
 
 add-sums : tie.Need-add-sums Inv-loop μ-loop
 add-sums c =
     let d = c .before in
     let l = d .before .before .before .before .before .before .before in
-    let p = l .before .pre .1 .1 .1 in
+    let p = l .before .before .pre .1 .1 .1 in
     omega (arith, new-part d, sum-before l, p .0 (l .loop .k) (omega arith), p .1 (l .loop .k) (omega arith))
 
 loop-again : tie.Need-loop-again Inv-loop μ-loop
@@ -101,6 +101,7 @@ move-parts-spec =
     (tie.spec
     Inv-loop
     μ-loop
+    (λ c κs. omega arith)
     loop-holds
     (λ c. omega arith)
     (λ c. omega arith)

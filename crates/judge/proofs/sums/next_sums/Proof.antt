@@ -20,13 +20,13 @@ partWith periods budgets deadlines k j slack =
     part (getD periods j 0) (getD budgets j 0) (getD deadlines k 0 - slack) (getD deadlines k 0) (getD budgets k 0)
 
 abbrev Inv-loop : tie.InvT-loop
-Inv-loop periods budgets deadlines inverses before slacks sums₀ count i₀ sums i =
+Inv-loop periods budgets deadlines before slacks sums₀ count i₀ sums i =
     (i ≤ count)
     × (length sums ≡ 32)
     × ((k : ℕ) → k < count → getD sums k 0 ≡ sumTo count (λ j. partWith periods budgets deadlines k j (mixed before slacks i j)))
 
 abbrev μ-loop : tie.MeasureT-loop
-μ-loop periods budgets deadlines inverses before slacks sums₀ count i₀ sums i = count - i
+μ-loop periods budgets deadlines before slacks sums₀ count i₀ sums i = count - i
 
 loop-holds : tie.Need-loop-holds Inv-loop μ-loop
 loop-holds c =
@@ -34,7 +34,7 @@ loop-holds c =
       omega arith,
       c .pre .0 .1,
       λ k h.
-          c .pre .1 .1 .1 k h
+          c .pre .1 .1 k h
           ∙ sym (mixed-none (a .before .now) (a .slacks .now) (partWith (a .periods .now) (a .budgets .now) (a .deadlines .now) k) (a .count)),
     )
 
@@ -59,12 +59,11 @@ within l k h inside =
 
 move-parts-requires : tie.Need-move-parts-requires Inv-loop μ-loop
 move-parts-requires c κs =
-    let l = c .before .before .before .before .before .before .before .before .before .before in
+    let l = c .before .before .before .before .before .before .before .before .before in
     let i = l .loop .i in
     let range = l .before .pre .1 .0 in
-    let own = range i (omega arith) in
-    let inverse = l .before .pre .1 .1 .0 i (omega arith) in (
-      (omega arith, omega arith, omega arith, inverse),
+    let own = range i (omega arith) in (
+      (omega arith, omega arith, omega arith),
       (
         (l .before .pre .0 .0, l .loop .inv .1),
         (
@@ -84,13 +83,13 @@ loop-again c =
     let i = l .loop .i in
     let partK = partWith (a .periods .now) (a .budgets .now) (a .deadlines .now) in (
       omega arith,
-      ⊎-elim (λ w. rw (w .8) (w .7 .ensures .0)) (λ w. rw (w .1) (l .loop .inv .1)) (c .if1 .came),
+      ⊎-elim (λ w. rw (w .7) (w .6 .ensures .0)) (λ w. rw (w .1) (l .loop .inv .1)) (c .if1 .came),
       λ k h.
           rw (add-one i)
           (⊎-elim
           (λ w.
-          rw (w .8)
-          (omega (arith, w .7 .ensures .1 k h, l .loop .inv .2 k h, mixed-next (a .before .now) (a .slacks .now) (partK k) (a .count) i (omega arith), within l k h (omega arith) .part-in)))
+          rw (w .7)
+          (omega (arith, w .6 .ensures .1 k h, l .loop .inv .2 k h, mixed-next (a .before .now) (a .slacks .now) (partK k) (a .count) i (omega arith), within l k h (omega arith) .part-in)))
           (λ w. rw (w .1) (omega (arith, l .loop .inv .2 k h, mixed-next (a .before .now) (a .slacks .now) (partK k) (a .count) i (omega arith), ap (partK k i) (w .0 .left))))
           (c .if1 .came)),
     )
@@ -113,8 +112,6 @@ next-sums-spec =
     Inv-loop
     μ-loop
     loop-holds
-    (λ c. omega arith)
-    (λ c. omega arith)
     (λ c. omega arith)
     (λ c. omega arith)
     (λ c. omega arith)

@@ -1,55 +1,75 @@
--- `part_of` meets its contract: the inverse divides exactly, and the least of the three numbers is the part.
-use Prim.Native.Nat.{_+_, _-_, _*_, _/_, min}
+-- `part_of` meets its contract: the guess of the whole periods is at most one too low, and what is left makes up for that.
+use Prim.Native.Nat.{_+_, _-_, _*_, _/_, _≤_, min}
 use native.Mathlib.Omega.{arith}
 use mathlib.Core.Path.{_≡_, _∙_}
 use borrow.Author.Needs.{needs}
-use Rattle.judge.proofs.Inverse.{scale, product-fits, Parted, parted}
+use Rattle.judge.proofs.Inverse.{half, product-fits, Guessed, guessed}
 use Rattle.judge.proofs.sums.part_of.Statement.{statement}
 use Rattle.judge.proofs.sums.part_of.Tie as tie
 
 computed :
     (c : tie.Start)
-    → Parted (c .args .period) (c .args .budget) (c .args .window) (c .args .spare) (c .args .window * c .args .inverse / scale)
+    → Guessed (c .args .period) (c .args .budget) (c .args .window) (c .args .spare) (c .args .window * c .args .inverse / half)
 computed c =
     let a = c .args in
-    parted (a .period) (a .window) (omega arith) (omega arith) (omega arith) (a .budget) (omega arith) (a .spare) (a .inverse) (c .pre .1)
+    guessed (a .period) (a .budget) (a .window) (omega arith) (omega arith) (omega arith) (a .spare) (a .inverse) (c .pre .1)
 
-mul-whole : tie.Need-mul-whole
-mul-whole c =
-    rw (c .pre .1) (omega (arith, product-fits (c .args .period) (c .args .window) (omega arith) (omega arith) (omega arith)))
+mul-guess : tie.Need-mul-guess
+mul-guess c =
+    rw (c .pre .1) (omega (arith, product-fits (c .args .period) (c .args .budget) (c .args .window) (omega arith) (omega arith) (omega arith)))
 
-mul-begun : tie.Need-mul-begun
-mul-begun c = omega (arith, computed c)
+cast-guess : tie.Need-cast-guess
+cast-guess c = omega (arith, computed c)
 
-add-begun : tie.Need-add-begun
-add-begun c = omega (arith, computed c)
+mul-left : tie.Need-mul-left
+mul-left c = omega (arith, computed c .within)
 
-mul-room : tie.Need-mul-room
-mul-room c = omega (arith, computed c)
+sub-left : tie.Need-sub-left
+sub-left c = computed c .within
 
-sub-room-2 : tie.Need-sub-room-2
-sub-room-2 c = omega (arith, computed c)
+mul-interference : tie.Need-mul-interference
+mul-interference c = omega (arith, computed (c .before) .budgets, computed (c .before) .within)
+
+-- Each of the three terms is at most the window or the budget.
+add-interference : tie.Need-add-interference
+add-interference c =
+    let g = computed (c .before .before) in
+    omega (arith, g .budgets, g .within, c .least .ensures)
+
+add-interference-2 : tie.Need-add-interference-2
+add-interference-2 c =
+    let g = computed (c .before .before .before) in
+    let a = c .before .before .before .args in
+    let first : c .before .least .result ≤ a .budget = omega (arith, c .before .least .ensures) in
+    let second : c .least2 .result ≤ a .budget = omega (arith, c .least2 .ensures) in
+    omega (arith, g .budgets, g .within, first, second)
 
 returns : tie.Need-returns
 returns c =
-    let s = c .before .before in
-    let a = s .args in
-    let whole = a .window * a .inverse / scale in
-    let result : c .least2 .result ≡ min (min (whole * a .budget + a .budget) (a .spare)) (a .window - whole * (a .period - a .budget))
-    = omega (arith, c .least2 .ensures, c .before .least .ensures) in
-    result ∙ computed s .part-is
+    let d = c .before in
+    let e = d .before in
+    let f = e .before in
+    let a = f .before .args in
+    let guess = a .window * a .inverse / half in
+    let result :
+    c .least3 .result
+    ≡ min (guess * a .budget + min (a .budget) (a .window - guess * a .period) + min (a .budget) (a .window - guess * a .period - a .period)) (a .spare)
+    = c .least3 .ensures ∙ rw (e .least .ensures, d .least2 .ensures, f .shortened .ensures) in
+    result ∙ computed (f .before) .part-is
 
 pub part-of-spec : {M : Type 1} → statement M
 part-of-spec =
     tie.close
     (tie.spec
-    mul-whole
-    mul-begun
-    add-begun
-    (λ c. search needs)
-    (λ c. search needs)
-    mul-room
-    sub-room-2
+    mul-guess
+    cast-guess
+    mul-left
+    sub-left
     (λ c κs. search needs)
+    mul-interference
+    (λ c κs. search needs)
+    add-interference
+    (λ c κs. search needs)
+    add-interference-2
     (λ c κs. search needs)
     returns)

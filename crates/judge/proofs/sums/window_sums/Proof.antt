@@ -14,7 +14,7 @@ use Rattle.judge.proofs.sums.window_sums.Statement.{statement}
 use Rattle.judge.proofs.sums.window_sums.Tie as tie
 
 abbrev Inv-loop : tie.InvT-loop
-Inv-loop periods budgets deadlines inverses sums₀ count i₀ sums i =
+Inv-loop periods budgets deadlines sums₀ count i₀ sums i =
     (i ≤ count)
     × (length sums ≡ 32)
     × ((k : ℕ) →
@@ -22,11 +22,11 @@ Inv-loop periods budgets deadlines inverses sums₀ count i₀ sums i =
     getD sums k 0 ≡ sumTo i (λ j. part (getD periods j 0) (getD budgets j 0) (getD deadlines k 0) (getD deadlines k 0) (getD budgets k 0)))
 
 abbrev μ-loop : tie.MeasureT-loop
-μ-loop periods budgets deadlines inverses sums₀ count i₀ sums i = count - i
+μ-loop periods budgets deadlines sums₀ count i₀ sums i = count - i
 
 loop-holds : tie.Need-loop-holds Inv-loop μ-loop
 unfolding sumTo
-loop-holds c = (omega arith, c .pre .0 .1, c .pre .1 .1 .1)
+loop-holds c = (omega arith, c .pre .0 .1, c .pre .1 .1)
 
 -- A sum over at most 32 tasks.
 sum-small : (l : tie.At-loop Inv-loop μ-loop) (k : ℕ) → k < l .before .args .count → getD (l .loop .sums) k 0 ≤ 32 * 1_000_000
@@ -36,16 +36,15 @@ sum-small l k h =
 
 add-parts-requires : tie.Need-add-parts-requires Inv-loop μ-loop
 add-parts-requires c κs =
-    let l = c .before .before .before .before .before in
+    let l = c .before .before .before .before in
     let range = l .before .pre .1 .0 in
     let own = range (l .loop .i) (omega arith) in
-    let inverse = l .before .pre .1 .1 .0 (l .loop .i) (omega arith) in
-    ((omega arith, omega arith, omega arith, inverse), (omega arith, (λ k h. omega (arith, range k h), (λ k h. omega (arith, range k h), sum-small l))))
+    ((omega arith, omega arith, omega arith), (omega arith, (λ k h. omega (arith, range k h), (λ k h. omega (arith, range k h), sum-small l))))
 
 loop-again : tie.Need-loop-again Inv-loop μ-loop
 unfolding sumTo
 loop-again c =
-    let l = c .before .before .before .before .before .before in (
+    let l = c .before .before .before .before .before in (
       omega arith,
       c .add-parts .ensures .0,
       λ k h. rw (add-one (l .loop .i)) (omega (arith, c .add-parts .ensures .1 k h, l .loop .inv .2 k h)),
@@ -67,8 +66,6 @@ window-sums-spec =
     Inv-loop
     μ-loop
     loop-holds
-    (λ c. omega arith)
-    (λ c. omega arith)
     (λ c. omega arith)
     (λ c. omega arith)
     (λ c. omega arith)

@@ -43,9 +43,6 @@ small l =
     let spare-small : getD (a .deadlines .now) k 0 - getD (a .budgets .now) k 0 ≤ 1_000_000 = omega (arith, p .1 .1 k (omega arith)) in
     (spare-small, omega (arith, mul-le-mul-right (getD (a .deadlines .now) k 0 - getD (a .budgets .now) k 0) (p .0 .1)))
 
-cast-if1 : tie.Need-cast-if1 Inv-loop μ-loop
-cast-if1 c = omega (arith, small (c .before .before .before))
-
 mul-if1 : tie.Need-mul-if1 Inv-loop μ-loop
 mul-if1 c = omega (arith, small (c .before .before .before))
 
@@ -86,7 +83,6 @@ count-by-sums-spec =
     (λ c. omega arith)
     sub-spare
     (λ c κs. search needs)
-    cast-if1
     mul-if1
     add-if1
     (λ c. omega arith)

@@ -1,84 +1,76 @@
--- `names_line` meets its contract: by the line's end, its three fields, and the columns of the names among them.
-use Prim.Native.Nat.{_^_, _<_}
-use native.Mathlib.Nat.{le-of-lt}
+-- `names_line` meets its contract: by the first name, the second, and the third, which is the one that is left.
+use Prim.Native.Nat.{_<_}
 use native.Mathlib.Omega.{arith}
-use mathlib.Core.Path.{sym, _∙_}
-use lib.ListN.{length, take}
-use lib.Seq.{length-take-le}
-use Rattle.text.proofs.FieldLaws.{ThreeFields, fields-are}
-use Rattle.reader.proofs.NamesLine.{not-ended, not-three, named, unnamed}
 use borrow.Author.Needs.{needs}
+use Rattle.text.specs.Lines.{space}
+use Rattle.reader.proofs.Naming.{at-name}
+use Rattle.reader.proofs.NamesLine.{no-first, first-fits, no-second, name-twice, second-fits, no-third, all-three}
 use Rattle.reader.proofs.names.names_line.Statement.{statement}
 use Rattle.reader.proofs.names.names_line.Tie as tie
 
--- the place where the line's end was found, from that of its fields
-abbrev line-end : tie.After-first → tie.Else1
-line-end c = c .before .before .before .before
-
--- the fields of the line, and how long it is
-fields :
-    (c : tie.After-first)
-    → let d = line-end c in
-    ThreeFields (take (d .before .find .result) (d .before .before .before .args .text .now)) (c .first .given .0 .0) (c .first .given .0 .1 .0)
-fields c = fields-are _ _ _ (sym (c .before .before .three-fields .ensures) ∙ c .first .given .1)
-
-line-fits :
-    (c : tie.After-first)
-    → let d = line-end c in length (take (d .before .find .result) (d .before .before .before .args .text .now)) < 2 ^ 64
-line-fits c =
-    let d = line-end c in
-    let t = d .before .before .before in
-    omega (arith, length-take-le (d .before .find .result) (t .args .text .now) (le-of-lt (d .if1 .left)), t .good)
-
 returns : tie.Need-returns
-returns c = not-ended _ _ (c .before .find .ensures) (c .if1 .taken)
+returns c = no-first _ _ (c .before .name-at .ensures) (c .if1 .taken)
 
-slice-aggregate-line : tie.Need-slice-aggregate-line
-slice-aggregate-line c = sym (length-take-le _ _ (le-of-lt (c .before .if1 .left)))
+sub-rest : tie.Need-sub-rest
+sub-rest c = let d = c .before in first-fits _ _ (d .before .name-at .ensures) (d .if1 .left) _ (c .field-length .ensures)
 
 returns-2 : tie.Need-returns-2
 returns-2 c =
-    let t = c .before .before in
-    let d = t .before .before in
-    not-three _ _ (d .before .find .ensures) (d .if1 .left) (sym (t .three-fields .ensures) ∙ c .enum-told .given .1)
-
-slice-aggregate-columns-in : tie.Need-slice-aggregate-columns-in
-slice-aggregate-columns-in c = let f = fields (c .before .before) in sym (length-take-le _ _ (omega (arith, f .order, f .within)))
-
-add-columns-in : tie.Need-add-columns-in
-add-columns-in c = let f = c .before .before in omega (arith, fields f .order, fields f .within, line-fits f)
-
-sub-columns-in : tie.Need-sub-columns-in
-sub-columns-in c = omega (arith, fields (c .before .before) .order)
-
-part-columns-in-start : tie.Need-part-columns-in-start
-part-columns-in-start c = omega (arith, fields (c .before .before) .order)
-
-part-columns-in-end : tie.Need-part-columns-in-end
-part-columns-in-end c = omega (arith, fields (c .before .before) .within)
-
-add-columns-in-2 : tie.Need-add-columns-in-2
-add-columns-in-2 c = let f = c .before .before .before in omega (arith, fields f .within, line-fits f)
-
-sub-columns-in-2 : tie.Need-sub-columns-in-2
-sub-columns-in-2 c = omega (arith, fields (c .before .before .before) .within)
-
-part-columns-in-start-2 : tie.Need-part-columns-in-start-2
-part-columns-in-start-2 c = omega (arith, fields (c .before .before .before) .within)
+    let f = c .before .before .before in
+    let d = f .before in
+    no-second _ _ (d .before .name-at .ensures) (d .if1 .left) _ (f .field-length .ensures) _ (c .before .name-at2 .ensures) (c .if2 .taken)
 
 returns-3 : tie.Need-returns-3
 returns-3 c =
-    let k = c .before .before in
-    let f = k .before .before .before .before .before in
-    let d = line-end f in
-    named _ _ (d .before .find .ensures) (d .if1 .left) _ _ (fields f) _ (k .columns-in .ensures) (sym (c .before .complete .ensures) ∙ c .if2 .taken)
+    let b = c .before in
+    let f = b .before .before .before in
+    let d = f .before in
+    name-twice _ _ (d .before .name-at .ensures) (d .if1 .left) _ (f .field-length .ensures) _ (b .before .name-at2 .ensures) (c .if3 .taken)
+
+sub-last : tie.Need-sub-last
+sub-last c =
+    let b = c .before .before in
+    let f = b .before .before .before in
+    let d = f .before in
+    second-fits _ _ (d .before .name-at .ensures) (d .if1 .left) _ (f .field-length .ensures)
+    _ (b .before .name-at2 .ensures) (b .if2 .left) (c .before .if3 .left) _ (c .field-length2 .ensures)
+
+-- two other names were found
+known :
+    (c : tie.Else3)
+    → let b = c .before in
+    (b .before .before .before .before .before .name-at .result < 3) × (b .before .name-at2 .result < 3)
+known c =
+    let b = c .before in
+    let f = b .before .before .before in
+    let d = f .before in
+    (at-name space _ _ (d .before .name-at .ensures) (d .if1 .left) .known, at-name space _ _ (b .before .name-at2 .ensures) (b .if2 .left) .known)
+
+sub-if4 : tie.Need-sub-if4
+sub-if4 c = omega (arith, known (c .before .before .before))
+
+sub-if4-2 : tie.Need-sub-if4-2
+sub-if4-2 c = let b = c .before .before .before in omega (arith, known b, b .if3 .left)
 
 returns-4 : tie.Need-returns-4
 returns-4 c =
-    let k = c .before .before in
-    let f = k .before .before .before .before .before in
-    let d = line-end f in
-    unnamed _ _ (d .before .find .ensures) (d .if1 .left) _ _ (fields f) _ (k .columns-in .ensures) (sym (c .before .complete .ensures) ∙ c .if2 .left)
+    let m = c .before .before .before in
+    let b = m .before .before in
+    let f = b .before .before .before in
+    let d = f .before in
+    no-third _ _ (d .before .name-at .ensures) (d .if1 .left) _ (f .field-length .ensures)
+    _ (b .before .name-at2 .ensures) (b .if2 .left) (m .before .if3 .left) _ (m .field-length2 .ensures) _ (c .before .name-at3 .ensures) (c .if4 .taken)
+
+returns-5 : tie.Need-returns-5
+returns-5 c =
+    let t = c .before .before .before in
+    let m = t .before .before .before in
+    let b = m .before .before in
+    let f = b .before .before .before in
+    let d = f .before in
+    rw (c .before .before .column-of .ensures, c .before .column-of2 .ensures, c .column-of3 .ensures)
+    (all-three _ _ (d .before .name-at .ensures) (d .if1 .left) _ (f .field-length .ensures)
+    _ (b .before .name-at2 .ensures) (b .if2 .left) (m .before .if3 .left) _ (m .field-length2 .ensures) _ (t .before .name-at3 .ensures) (t .if4 .left))
 
 pub names-line-spec : {M : Type 1} → statement M
 names-line-spec =
@@ -86,22 +78,22 @@ names-line-spec =
     (tie.spec
     (λ c κs. search needs)
     returns
-    slice-aggregate-line
     (λ c κs. search needs)
+    sub-rest
+    sub-rest
     (λ c. search needs)
-    (λ c. search needs)
+    (λ c κs. search needs)
     returns-2
-    slice-aggregate-columns-in
-    add-columns-in
-    sub-columns-in
-    part-columns-in-start
-    part-columns-in-end
-    add-columns-in-2
-    sub-columns-in-2
-    part-columns-in-start-2
-    (λ c. search needs)
-    (λ c κs. search needs)
-    (λ c κs. search needs)
-    (λ c. search needs)
     returns-3
-    returns-4)
+    (λ c κs. search needs)
+    sub-last
+    sub-last
+    (λ c. search needs)
+    (λ c κs. search needs)
+    sub-if4
+    sub-if4-2
+    returns-4
+    (λ c κs. search needs)
+    (λ c κs. search needs)
+    (λ c κs. search needs)
+    returns-5)

@@ -1,0 +1,45 @@
+-- Examples of sums as large as a table's can be, for document 02's change 7, as entries of a list of computed tests: `allTrue` of crate laws is the test, and
+-- the theorem stands in proofs/SumExamplesHold.antt. Tasks are written T, C, D. A task 1,000,000, 1, 1,000,000 has the spare 999,999, and on 16 cores its sum
+-- is compared with 15,999,984; a task 1, 1, 1 adds 999,999 to it.
+use Prim.Native.Nat.{ℕ}
+use mathlib.Core.Bool.{Bool, true, false}
+use mathlib.Core.List.{List, [], _∷_}
+use lib.Dec.{eqb}
+use lib.ListN.{replicate}
+use Rattle.edzl.specs.Window.{noSlack, windowSum, countUrgent}
+use Rattle.edzl.specs.SlackExamples.{Numbers, task, setOf, slackIs}
+
+-- the sum of the first task in the window test
+unfoldable pub firstSumIs : List Numbers → (sum : ℕ) → Bool
+firstSumIs tasks sum = eqb (windowSum (setOf tasks) noSlack 0) sum
+
+-- COUNT of the window test
+unfoldable pub countIs : List Numbers → (m count : ℕ) → Bool
+countIs tasks m count = eqb (countUrgent (setOf tasks) noSlack m) count
+
+-- a task 1,000,000, 1, 1,000,000 with n tasks 1, 1, 1
+unfoldable pub longWith : (n : ℕ) → List Numbers
+longWith n = task 1_000_000 1 1_000_000 ∷ replicate n (task 1 1 1)
+
+-- the same with 15 of them and one task that adds 999,998
+unfoldable pub oneBelow : List Numbers
+oneBelow = task 1_000_000 1 1_000_000 ∷ task 1_000_000 999_998 999_998 ∷ replicate 15 (task 1 1 1)
+
+unfoldable pub sumExamples : List Bool
+sumExamples =
+    -- with 15 below
+    firstSumIs (longWith 15) 14_999_985 ∷
+    countIs (longWith 15) 16 15 ∷
+    slackIs (longWith 15) 16 2 true ∷
+    -- one below
+    firstSumIs oneBelow 15_999_983 ∷
+    countIs oneBelow 16 16 ∷
+    -- with 16 at
+    firstSumIs (longWith 16) 15_999_984 ∷
+    countIs (longWith 16) 16 17 ∷
+    slackIs (longWith 16) 16 1 false ∷
+    -- with 31 above
+    firstSumIs (longWith 31) 30_999_969 ∷
+    countIs (longWith 31) 16 32 ∷
+    slackIs (longWith 31) 16 1 false ∷
+    []

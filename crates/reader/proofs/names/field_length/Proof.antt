@@ -1,0 +1,13 @@
+-- `field_length` meets its contract.
+use borrow.Author.Tests.{eq-eqb, ne-eqb}
+use Rattle.reader.proofs.names.field_length.Statement.{statement}
+use Rattle.reader.proofs.names.field_length.Tie as tie
+
+returns : tie.Need-returns
+returns c = rw (eq-eqb _ _ (c .if1 .taken))
+
+returns-2 : tie.Need-returns-2
+returns-2 c = rw (ne-eqb _ _ (c .if1 .left))
+
+pub field-length-spec : {M : Type 1} → statement M
+field-length-spec = tie.close (tie.spec returns returns-2)
