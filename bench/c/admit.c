@@ -10,43 +10,51 @@ static uint32_t spare(const struct task *task)
     return task->deadline - task->budget;
 }
 
-/* The slots that a task can take from a window: I_i(L) of document 01. */
-static uint64_t interference(const struct task *task, uint32_t window)
+/* What a task that has this slack counts for in the sum of another one. */
+static uint32_t part(const struct task *task, uint32_t slack, const struct task *own)
 {
+    uint32_t window = own->deadline > slack ? own->deadline - slack : 0;
     uint32_t whole = window / task->period;
     uint32_t rest = window % task->period;
-    return (uint64_t)whole * task->budget + (rest < task->budget ? rest : task->budget);
+    uint32_t interference = whole * task->budget + (rest < task->budget ? rest : task->budget);
+    return interference < spare(own) ? interference : spare(own);
 }
 
-/* The sum of task k, where every other task has the slack given. */
-static uint64_t sum_of(const struct table *table, const uint32_t *slacks, size_t k)
+/* The sums of all tasks where all slacks are 0. */
+static void window_sums(const struct table *table, uint32_t *sums)
 {
-    const struct task *own = &table->tasks[k];
-    uint64_t most = spare(own);
-    uint64_t sum = 0;
-    for (size_t i = 0; i < table->count; i++) {
-        if (i == k)
-            continue;
-        uint32_t window = own->deadline > slacks[i] ? own->deadline - slacks[i] : 0;
-        uint64_t part = interference(&table->tasks[i], window);
-        sum += part < most ? part : most;
+    for (size_t k = 0; k < table->count; k++) {
+        uint32_t sum = 0;
+        for (size_t i = 0; i < table->count; i++)
+            if (i != k)
+                sum += part(&table->tasks[i], 0, &table->tasks[k]);
+        sums[k] = sum;
     }
-    return sum;
 }
 
-/* The sums of all tasks, from the slacks of the round before. */
-static void add_up(const struct table *table, const uint32_t *slacks, uint64_t *sums)
+/* Turns the sums of the round before into those with the new slacks: each task whose slack
+ * changed takes its old parts out and puts its new ones in. */
+static void next_sums(const struct table *table, const uint32_t *before, const uint32_t *slacks,
+                      uint32_t *sums)
 {
-    for (size_t k = 0; k < table->count; k++)
-        sums[k] = sum_of(table, slacks, k);
+    for (size_t i = 0; i < table->count; i++) {
+        if (before[i] == slacks[i])
+            continue;
+        const struct task *task = &table->tasks[i];
+        for (size_t k = 0; k < table->count; k++) {
+            const struct task *own = &table->tasks[k];
+            if (k != i)
+                sums[k] += part(task, slacks[i], own) - part(task, before[i], own);
+        }
+    }
 }
 
-static int may_turn_urgent(const struct task *task, uint64_t sum, uint32_t cores)
+static int may_turn_urgent(const struct task *task, uint32_t sum, uint32_t cores)
 {
-    return sum >= (uint64_t)cores * spare(task);
+    return sum >= cores * spare(task);
 }
 
-static int few_urgent(const struct table *table, const uint64_t *sums, uint32_t cores)
+static int few_urgent(const struct table *table, const uint32_t *sums, uint32_t cores)
 {
     uint32_t count = 0;
     for (size_t k = 0; k < table->count; k++)
@@ -54,17 +62,15 @@ static int few_urgent(const struct table *table, const uint64_t *sums, uint32_t 
     return count <= cores;
 }
 
-/* Sets each slack by its sum and says whether any changed. A sum that is divided is below
- * cores times a spare, and so fits in 32 bits. */
-static int set_slacks(const struct table *table, const uint64_t *sums, uint32_t cores,
+/* Sets each slack by its sum and says whether any changed. */
+static int set_slacks(const struct table *table, const uint32_t *sums, uint32_t cores,
                       uint32_t *slacks)
 {
     int changed = 0;
     for (size_t k = 0; k < table->count; k++) {
-        const struct task *task = &table->tasks[k];
-        uint32_t slack = 0;
-        if (!may_turn_urgent(task, sums[k], cores))
-            slack = spare(task) - (uint32_t)sums[k] / cores;
+        uint32_t needed = cores * spare(&table->tasks[k]);
+        uint32_t lacking = sums[k] < needed ? needed - sums[k] : 0;
+        uint32_t slack = (lacking + cores - 1) / cores;
         changed |= slack != slacks[k];
         slacks[k] = slack;
     }
@@ -75,16 +81,19 @@ static int set_slacks(const struct table *table, const uint64_t *sums, uint32_t 
  * that admits is admitted without further rounds. */
 static int admitted(const struct table *table, uint32_t cores)
 {
-    uint32_t slacks[MAX_TASKS];
-    uint64_t sums[MAX_TASKS];
-    memset(slacks, 0, table->count * sizeof *slacks);
-    add_up(table, slacks, sums);
+    uint32_t sums[MAX_TASKS];
+    window_sums(table, sums);
     if (few_urgent(table, sums, cores))
         return 1;
+    uint32_t before[MAX_TASKS];
+    uint32_t slacks[MAX_TASKS];
+    size_t size = table->count * sizeof *slacks;
+    memset(slacks, 0, size);
     for (int round = 1; round < MAX_ROUNDS; round++) {
+        memcpy(before, slacks, size);
         if (!set_slacks(table, sums, cores, slacks))
             break;
-        add_up(table, slacks, sums);
+        next_sums(table, before, slacks, sums);
     }
     return few_urgent(table, sums, cores);
 }

@@ -1,8 +1,8 @@
--- Laws of a new slack. Others cite: `new-none` and `new-some`, what it is by whether the sum reaches; `new-fits` and `new-antitone`; and `new-ahead`, by which a
--- job is ahead by it.
-use Prim.Native.Nat.{ℕ, _+_, _*_, _-_, _/_, _≤_, _<_}
-use mathlib.Core.Path.{_≡_}
-use native.Mathlib.Nat.{mul-comm, le-div-iff-mul-le, div-mul-le-self}
+-- Laws of a new slack. Others cite: `new-none` and `new-some`, what it is by whether the sum reaches; `new-fits` and `new-antitone`; `new-ahead`, by which a
+-- job is ahead by it; and `new-rounded`, what it is without that test.
+use Prim.Native.Nat.{ℕ, _+_, _*_, _-_, _/_, _%_, _≤_, _<_}
+use mathlib.Core.Path.{_≡_, sym, ap, _∙_}
+use native.Mathlib.Nat.{mul-comm, lt-of-mul-lt-mul-left, le-div-iff-mul-le, div-mul-le-self, div-add-mod', div-eq-of-lt-le, mod-lt}
 use native.Mathlib.Omega.{arith}
 use borrow.Author.Tests.{le-leb, lt-leb}
 use Rattle.laws.proofs.CaseSplits.{by-order}
@@ -49,3 +49,22 @@ new-ahead m A sum budget left in-time paid =
     le-div-iff-mul-le (some-cores m A sum h) .1 (omega (arith, mul-comm m ((A + budget) - left)))
     in
     rw (new-some m A sum h) (omega arith))
+
+-- It is what the sum lacks, divided by m and rounded up.
+pub new-rounded : (m A sum : ℕ) → 1 ≤ m → newSlack m A sum ≡ (m * A - sum + m - 1) / m
+new-rounded m A sum some =
+    by-order (m * A) sum
+    (λ h.
+    let none : (m * A - sum + m - 1) / m ≡ 0 = div-eq-of-lt-le m (omega arith) (omega arith) in
+    new-none m A sum h ∙ sym none)
+    (λ h.
+    let q = sum / m in
+    let cut : sum ≡ q * m + sum % m = sym (div-add-mod' sum m) in
+    let rest : sum % m < m = mod-lt sum some in
+    let q-small : q < A = lt-of-mul-lt-mul-left m (omega (arith, mul-comm m q)) in
+    let d = A - q in
+    let whole : m * A ≡ m * q + m * d = let e : A ≡ q + d = omega arith in ap (λ (n : ℕ). m * n) e ∙ omega arith in
+    let lacking : (m * A - sum + m - 1) / m ≡ d =
+    div-eq-of-lt-le m (omega (arith, mul-comm m q, mul-comm m d)) (omega (arith, mul-comm m q, mul-comm m d))
+    in
+    new-some m A sum h ∙ sym lacking)

@@ -1,4 +1,5 @@
 // The rounds of the slack test: document 02, change 6.
+use crate::sums::left_over;
 use crate::sums::next_sums;
 use crate::urgent::own_part;
 use tasks::limits::MAX_TASKS;
@@ -16,18 +17,16 @@ ghost use Rattle.judge.specs.Listed.{listed, Ranges};
 // "or after 64"
 const MAX_ROUNDS: u32 = 64;
 
-// The slack that a sum gives. The sum counts the task itself too.
+// The slack that a sum gives: what the sum lacks, divided by the cores and rounded up, which is 0 where the sum reaches. The sum
+// counts the task itself too. The compiler makes no branch of it.
 fn slack_of(budget: u32, deadline: u32, sum: u32, cores: u32) -> u32
     requires { ⌜ (budget ≤ deadline) × (deadline ≤ maxPeriod) × (1 ≤ cores) × (cores ≤ maxCores) ⌝ }
     requires { ⌜ min budget (deadline - budget) ≤ sum ⌝ }
     ensures { λ r. ⌜ r ≡ newSlack cores (deadline - budget) (sum - min budget (deadline - budget)) ⌝ }
 {
     let spare = deadline - budget;
-    let others = sum - own_part(budget, spare);
-    if cores * spare <= others {
-        return 0;
-    }
-    spare - others / cores
+    let needed = cores * spare + own_part(budget, spare);
+    (left_over(needed, sum) + cores - 1) / cores
 }
 
 // Gives each of the first `count` tasks the slack of its sum, and says how many slacks changed.

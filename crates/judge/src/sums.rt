@@ -2,7 +2,7 @@
 // itself too: the tests allow for that.
 use edzl::least;
 use tasks::limits::MAX_TASKS;
-ghost use Prim.Native.Nat.{ℕ, _+_, _-_, _*_, _/_, _≤_, _<_, min};
+ghost use Prim.Native.Nat.{ℕ, _+_, _-_, _*_, _≤_, _<_, min};
 ghost use mathlib.Core.Path.{_≡_};
 ghost use lib.ListN.{length, getD};
 ghost use Rattle.tasks.specs.Limits.{maxTasks, maxPeriod};
@@ -10,11 +10,11 @@ ghost use Rattle.edzl.specs.Window.{interference, noSlack, windowSum};
 ghost use Rattle.edzl.specs.Sums.{sumTo};
 ghost use Rattle.judge.specs.Listed.{listed, Ranges, inverseOf};
 
-// A window that a slack shortens, to nothing at most.
-fn shortened(window: u32, slack: u32) -> u32
-    ensures { λ r. ⌜ r ≡ window - slack ⌝ }
+// What is left of a number when another is taken from it: nothing at least.
+pub(crate) fn left_over(number: u32, taken: u32) -> u32
+    ensures { λ r. ⌜ r ≡ number - taken ⌝ }
 {
-    if slack < window { window - slack } else { 0 }
+    if taken < number { number - taken } else { 0 }
 }
 
 // The inverse of a period: a window times it, without the lower 32 bits, is the window's quotient by the period or one less. One
@@ -35,7 +35,7 @@ fn part_of(period: u32, budget: u32, inverse: u32, window: u32, spare: u32) -> u
 {
     let guess = (window as u64 * inverse as u64 >> 32) as u32;
     let left = window - guess * period;
-    let more = shortened(left, period);
+    let more = left_over(left, period);
     let interference = guess * budget + least(budget, left) + least(budget, more);
     least(interference, spare)
 }
@@ -129,8 +129,8 @@ fn move_parts(
     while k < count {
         let deadline = deadlines[k];
         let spare = deadline - budgets[k];
-        let old = part_of(period, budget, inverse, shortened(deadline, before), spare);
-        let new = part_of(period, budget, inverse, shortened(deadline, slack), spare);
+        let old = part_of(period, budget, inverse, left_over(deadline, before), spare);
+        let new = part_of(period, budget, inverse, left_over(deadline, slack), spare);
         sums[k] = sums[k] - old + new;
         k += 1;
     }

@@ -4,7 +4,6 @@ use Prim.Native.Nat.{ℕ}
 use mathlib.Core.Path.{_≡_, _∙_}
 use mathlib.Core.List.{List}
 use Rattle.laws.proofs.CaseSplits.{clash}
-use Rattle.tasks.specs.declared.outcome.Outcome.{Outcome}
 use Rattle.tasks.specs.declared.outcome.Outcome.the-variants as Out
 use Rattle.tasks.specs.Numbers.{periodsOf, budgetsOf, deadlinesOf, tableFrom}
 use Rattle.tasks.proofs.OutcomeLaws.{by-outcome}

@@ -7,7 +7,7 @@ use mathlib.Core.Bool.{true}
 use mathlib.Core.List.{List}
 use borrow.Author.Tests.{lt-ltb, le-ltb}
 use lib.Dec.{eqb}
-use lib.ListN.{length, replicate}
+use lib.ListN.{length}
 use Rattle.laws.proofs.Booleans.{and-right}
 use Rattle.laws.proofs.Parts.{from}
 use Rattle.text.specs.Lines.{lineEnd, has, before, fieldCount}
@@ -18,7 +18,7 @@ use Rattle.tasks.specs.Limits.{maxTasks, maxTextLength}
 use Rattle.tasks.specs.Refusals.{textTooLong, badNamesLine}
 use Rattle.tasks.specs.Table.{emptyTable}
 use Rattle.tasks.specs.Numbers.{periodsOf, budgetsOf, deadlinesOf, tasksFrom, tableFrom}
-use Rattle.tasks.proofs.Numbers.{Long, periods-from, budgets-from, deadlines-from, from-zeros}
+use Rattle.tasks.proofs.Numbers.{Long, periods-from, budgets-from, deadlines-from}
 use Rattle.reader.specs.declared.names.Columns.{Columns}
 use Rattle.reader.specs.declared.names.NamesLine.the-variants as Names
 use Rattle.reader.specs.declared.Reading.{Reading}
@@ -93,8 +93,9 @@ module _ (w : Reading) (r : Counted) (ts : List Task) (number place : ℕ) (e : 
   refusal-is v f = f ∙ (rw e at is)
 
   pub zeros-are :
-      (ps bs ds : List ℕ) → ps ≡ replicate maxTasks 0 → bs ≡ replicate maxTasks 0 → ds ≡ replicate maxTasks 0 → Numbers w ps bs ds
-  unfolding refused emptyTable
+      (ps bs ds : List ℕ)
+      → ps ≡ periodsOf (emptyTable .tasks) → bs ≡ budgetsOf (emptyTable .tasks) → ds ≡ deadlinesOf (emptyTable .tasks) → Numbers w ps bs ds
+  unfolding refused
   zeros-are ps bs ds p b d =
-      numbers-from w ps bs ds (record { periods-long = ap length p; budgets-long = ap length b; deadlines-long = ap length d })
-      (rw (p, b, d) (from-zeros ∙ ap (λ (v : Reading). v .table .tasks) (refusal-is (refused number place) refl)))
+      let none : emptyTable .tasks ≡ w .table .tasks = ap (λ (v : Reading). v .table .tasks) (refusal-is (refused number place) refl) in
+      record { periods = p ∙ ap periodsOf none; budgets = b ∙ ap budgetsOf none; deadlines = d ∙ ap deadlinesOf none }

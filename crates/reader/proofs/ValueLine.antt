@@ -1,5 +1,5 @@
 -- What the value line of a text s is where its reader stops: `no-first`, `no-second` and `no-third` at a value that is none, by what the reader of a
--- value says (`ended`, `not-ended`), and `all-three`; and what it says of a text: `line-read`, `line-broken`.
+-- value says (`ended`, `not-ended`), and `all-three`, with `fits`; what it says of a text: `line-read`, `line-broken`; and `columns-below`.
 use Prim.Native.Nat.{ℕ, zero, suc, _+_, _≤_, _<_}
 use native.Mathlib.Omega.{arith}
 use mathlib.Core.Path.{_≡_, refl, sym, _∙_}
@@ -94,7 +94,7 @@ first-value n s =
     rw (on-line 7 largest n s, value-number (before space s))
     (by-test (valueUpTo space s) (λ t. rw (t, same-end s t)) (λ t. rw (t, and-false (has lineEnd s))))
 
--- no value of 7 digits is above the largest: three values are three numbers
+-- three values are three numbers
 three-values : (l : List ℕ) → threeValues l ≡ areThree 7 largest l
 unfolding threeValues areThree
 three-values l = rw (value-number (field 0 l), value-number (field 1 l), value-number (field 2 l))

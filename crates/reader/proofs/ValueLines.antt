@@ -1,20 +1,20 @@
 -- One turn over the value lines, whose numbers go to three lists. Others cite `Reading-on`, the state of the reading between two lines, with `begin`
--- and `next`, and what the whole reading is where it stops: `no-task`, `finish`, `too-many`, `bad-line` and `bad-task`.
+-- and `next`, `none-long`, and what the whole reading is where it stops: `no-task`, `finish`, `too-many`, `bad-line` and `bad-task`.
 use Prim.Native.Nat.{ℕ, zero, suc, _+_, _-_, _≤_, _<_}
 use native.Mathlib.Omega.{arith}
-use mathlib.Core.Path.{_≡_, refl, sym, _∙_}
+use mathlib.Core.Path.{_≡_, sym, ap, _∙_}
 use mathlib.Core.Bool.{true, false}
 use mathlib.Core.List.{List}
 use borrow.Author.Tests.{eq-eqb, ne-eqb}
-use lib.ListN.{length, set, replicate, length-set}
+use lib.ListN.{length, set, replicate, length-set, length-replicate}
 use Rattle.laws.proofs.Parts.{from, from-length}
 use Rattle.tasks.specs.declared.task.Task.{Task}
 use Rattle.tasks.specs.Limits.{maxTasks}
 use Rattle.tasks.specs.Refusals.{tooManyTasks, badValueLine, taskOutOfRange, noTask}
 use Rattle.tasks.specs.Task.{inRange}
-use Rattle.tasks.specs.Table.{emptyTable, withTask}
-use Rattle.tasks.specs.Numbers.{tasksFrom, tableFrom}
-use Rattle.tasks.proofs.Numbers.{Long, set-from, from-zeros}
+use Rattle.tasks.specs.Table.{zeroTask, emptyTable, withTask}
+use Rattle.tasks.specs.Numbers.{periodsOf, budgetsOf, deadlinesOf, tasksFrom, tableFrom}
+use Rattle.tasks.proofs.Numbers.{Long, set-from, from-lists}
 use Rattle.reader.specs.declared.names.Columns.{Columns}
 use Rattle.reader.specs.declared.Reading.{Reading}
 use Rattle.reader.specs.declared.numbers.Counted.{Counted}
@@ -24,6 +24,16 @@ use Rattle.reader.specs.Parts.{readingFrom}
 use Rattle.text.proofs.LineLaws.{no-bytes, some-bytes}
 use Rattle.reader.proofs.ValueLine.{LineRead}
 
+-- those of the empty table
+pub none-long :
+    (ps bs ds : List ℕ) → ps ≡ periodsOf (emptyTable .tasks) → bs ≡ budgetsOf (emptyTable .tasks) → ds ≡ deadlinesOf (emptyTable .tasks) → Long ps bs ds
+unfolding emptyTable periodsOf budgetsOf deadlinesOf
+none-long ps bs ds p b d = record { periods-long = ap length p; budgets-long = ap length b; deadlines-long = ap length d }
+
+none-from : tableFrom (periodsOf (emptyTable .tasks)) (budgetsOf (emptyTable .tasks)) (deadlinesOf (emptyTable .tasks)) 0 ≡ emptyTable
+unfolding tableFrom emptyTable
+none-from = rw (from-lists (replicate maxTasks zeroTask) (length-replicate maxTasks zeroTask))
+
 -- between two lines: the lists have the numbers of n tasks, and the rest s of the text settles the whole reading w
 pub record Reading-on (c : Columns) (w : Reading) (ps bs ds : List ℕ) (n : ℕ) (s : List ℕ) : Type 0 where
   pub long : Long ps bs ds
@@ -31,15 +41,10 @@ pub record Reading-on (c : Columns) (w : Reading) (ps bs ds : List ℕ) (n : ℕ
   pub left : w ≡ valueLines c (maxTasks - n) (tableFrom ps bs ds n) s
 
 pub begin :
-    (c : Columns) (s ps bs ds : List ℕ) → ps ≡ replicate maxTasks 0 → bs ≡ replicate maxTasks 0 → ds ≡ replicate maxTasks 0
+    (c : Columns) (s ps bs ds : List ℕ)
+    → ps ≡ periodsOf (emptyTable .tasks) → bs ≡ budgetsOf (emptyTable .tasks) → ds ≡ deadlinesOf (emptyTable .tasks)
     → Reading-on c (valueLines c maxTasks emptyTable s) ps bs ds 0 s
-unfolding emptyTable tableFrom
-begin c s ps bs ds p b d =
-    rw (p, b, d) (record {
-      long = record { periods-long = refl; budgets-long = refl; deadlines-long = refl };
-      within = omega arith;
-      left = rw from-zeros;
-    })
+begin c s ps bs ds p b d = record { long = none-long ps bs ds p b d; within = omega arith; left = rw (p, b, d, none-from) }
 
 module _ (c : Columns) (w : Reading) (ps bs ds : List ℕ) (n : ℕ) (s : List ℕ) (on : Reading-on c w ps bs ds n s) where
   -- the reading that an answer says

@@ -1,5 +1,6 @@
 -- The scan of a value's digits, which tells a leading zero by the number so far. Others cite its invariant `Digits`, with `digits-none` and
--- `digits-more`; whether the field is a value at each way out: `no-digits`, `no-digit`, `too-long`, `zero-leads` and `is-value`; and `sum-fits`.
+-- `digits-more`; whether the field is a value at each way out: `no-digits`, `no-digit`, `too-long`, `zero-leads` and `is-value`; `sum-fits`, that a
+-- number with a digit more is not too large; and `value-number`, that values are the numbers up to `largest`.
 use Prim.Native.Nat.{ℕ, _+_, _-_, _*_, _^_, _≤_, _<_}
 use native.Mathlib.Nat.{pow-le-pow-right, pow-suc}
 use native.Mathlib.Numerals.{add-one}

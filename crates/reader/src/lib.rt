@@ -10,8 +10,6 @@ pub mod numbers;
 mod values;
 
 ghost use mathlib.Core.Path.{_≡_};
-ghost use lib.ListN.{length};
-ghost use Rattle.tasks.specs.Limits.{maxTasks};
 ghost use Rattle.tasks.specs.Numbers.{tableFrom};
 ghost use Rattle.reader.specs.Reading.{reading, refused};
 

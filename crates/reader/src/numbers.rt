@@ -11,11 +11,9 @@ use tasks::refusals::NO_TASK;
 use tasks::refusals::TASK_OUT_OF_RANGE;
 use tasks::refusals::TEXT_TOO_LONG;
 use tasks::refusals::TOO_MANY_TASKS;
-ghost use Prim.Native.Nat.{ℕ};
 ghost use mathlib.Core.Path.{_≡_};
 ghost use mathlib.Core.Bool.{true};
-ghost use mathlib.Core.List.{List};
-ghost use lib.ListN.{length, replicate};
+ghost use lib.ListN.{length};
 ghost use Rattle.tasks.specs.Limits.{maxTasks};
 ghost use Rattle.tasks.specs.Table.{emptyTable};
 ghost use Rattle.tasks.specs.Numbers.{periodsOf, budgetsOf, deadlinesOf, tasksFrom};
@@ -37,11 +35,18 @@ fn refusal(number: u32, place: u32) -> Counted
     Counted::Refused { number, place }
 }
 
-// Makes all numbers 0.
-fn clear(numbers: &mut [u32; MAX_TASKS])
-    ensures { λ _. ⌜ now (numbers .exit) ≡ replicate maxTasks 0 ⌝ }
+// Makes all numbers 0, as those of the empty table are.
+fn clear(
+    periods: &mut [u32; MAX_TASKS],
+    budgets: &mut [u32; MAX_TASKS],
+    deadlines: &mut [u32; MAX_TASKS],
+)
+    ensures { λ _. let none = emptyTable .tasks in
+        ⌜ (now (periods .exit) ≡ periodsOf none) × (now (budgets .exit) ≡ budgetsOf none) × (now (deadlines .exit) ≡ deadlinesOf none) ⌝ }
 {
-    *numbers = [0; MAX_TASKS];
+    *periods = [0; MAX_TASKS];
+    *budgets = [0; MAX_TASKS];
+    *deadlines = [0; MAX_TASKS];
 }
 
 // Value lines in turn, into arrays of zeros: each line's reader gets the part of the text after the line before.
@@ -53,7 +58,8 @@ fn value_lines(
     deadlines: &mut [u32; MAX_TASKS],
 ) -> Counted
     requires { ⌜ eachNamed columns ≡ true ⌝ }
-    requires { let zeros : List ℕ = replicate maxTasks 0 in ⌜ (now periods ≡ zeros) × (now budgets ≡ zeros) × (now deadlines ≡ zeros) ⌝ }
+    requires { let none = emptyTable .tasks in
+        ⌜ (now periods ≡ periodsOf none) × (now budgets ≡ budgetsOf none) × (now deadlines ≡ deadlinesOf none) ⌝ }
     ensures { λ r. ⌜ readingFrom r (tasksFrom (now (periods .exit)) (now (budgets .exit)) (now (deadlines .exit)))
         ≡ valueLines columns maxTasks emptyTable (now (text .entry)) ⌝ }
     ensures { λ _. ⌜ (length (now (periods .exit)) ≡ maxTasks) × (length (now (budgets .exit)) ≡ maxTasks) × (length (now (deadlines .exit)) ≡ maxTasks) ⌝ }
@@ -93,7 +99,8 @@ pub(crate) fn fill(
     budgets: &mut [u32; MAX_TASKS],
     deadlines: &mut [u32; MAX_TASKS],
 ) -> Counted
-    requires { let zeros : List ℕ = replicate maxTasks 0 in ⌜ (now periods ≡ zeros) × (now budgets ≡ zeros) × (now deadlines ≡ zeros) ⌝ }
+    requires { let none = emptyTable .tasks in
+        ⌜ (now periods ≡ periodsOf none) × (now budgets ≡ budgetsOf none) × (now deadlines ≡ deadlinesOf none) ⌝ }
     ensures { λ r. ⌜ readingFrom r (tasksFrom (now (periods .exit)) (now (budgets .exit)) (now (deadlines .exit))) ≡ reading (now (text .entry)) ⌝ }
     ensures { λ _. ⌜ (length (now (periods .exit)) ≡ maxTasks) × (length (now (budgets .exit)) ≡ maxTasks) × (length (now (deadlines .exit)) ≡ maxTasks) ⌝ }
 {
@@ -118,15 +125,11 @@ pub fn read_numbers(
     ensures { λ _. ⌜ now (budgets .exit) ≡ budgetsOf (reading (now (text .entry)) .table .tasks) ⌝ }
     ensures { λ _. ⌜ now (deadlines .exit) ≡ deadlinesOf (reading (now (text .entry)) .table .tasks) ⌝ }
 {
-    clear(periods);
-    clear(budgets);
-    clear(deadlines);
+    clear(periods, budgets, deadlines);
     let counted = fill(text, periods, budgets, deadlines);
     if let Counted::Read { count: _ } = counted {
         return counted;
     }
-    clear(periods);
-    clear(budgets);
-    clear(deadlines);
+    clear(periods, budgets, deadlines);
     counted
 }

@@ -1,11 +1,11 @@
 -- A table's numbers in three lists. Others cite `entryAt`, `entry-from`, an entry; `from-entries`, all of them; `from-lists`, that the lists of entries make these entries; of lists as long
--- as a table `periods-from`, `budgets-from` and `deadlines-from`, that their entries have these numbers, and `set-from`, an entry replaced; and `from-zeros`.
+-- as a table `periods-from`, `budgets-from` and `deadlines-from`, that their entries have these numbers, and `set-from`, an entry replaced.
 use Prim.Native.Nat.{ℕ, zero, suc, _+_, _<_}
 use native.Mathlib.Nat.{add-zero}
 use native.Mathlib.Omega.{arith}
 use mathlib.Core.Path.{_≡_, refl, sym, ap, _∙_}
 use mathlib.Core.List.{List}
-use lib.ListN.{length, getD, set, replicate, length-map, length-set, length-replicate, getD-replicate, List·getD-map}
+use lib.ListN.{length, getD, set, length-map, length-set, List·getD-map}
 use lib.Seq.{getD-set-same, getD-set-other, ext-getD}
 use Rattle.laws.proofs.CaseSplits.{by-equal}
 use Rattle.tasks.specs.Limits.{maxTasks}
@@ -126,10 +126,3 @@ set-from periods budgets deadlines long k task h =
       getD-set-other deadlines k i (task .deadline) 0 ne,
     )
     (entry-from periods budgets deadlines i l))))
-
--- lists of zeros make entries of zeros
-pub from-zeros : tasksFrom (replicate maxTasks 0) (replicate maxTasks 0) (replicate maxTasks 0) ≡ replicate maxTasks zeroTask
-unfolding zeroTask
-from-zeros =
-    from-entries (replicate maxTasks 0) (replicate maxTasks 0) (replicate maxTasks 0) (replicate maxTasks zeroTask) (length-replicate maxTasks zeroTask)
-    (λ i h. rw (getD-replicate maxTasks i zeroTask zeroTask h, getD-replicate {A = ℕ} maxTasks i 0 0 h))

@@ -1,5 +1,5 @@
 -- Lines of fields: document 01, "The table as text"; for any number of them docs/HANDBOOK.md, "Probing one call".
-use Prim.Native.Nat.{ℕ, zero, suc, _+_}
+use Prim.Native.Nat.{ℕ, zero, suc}
 use mathlib.Core.List.{List}
 use mathlib.Core.Bool.{Bool, true, cond, _&&_}
 use lib.Dec.{eqb}

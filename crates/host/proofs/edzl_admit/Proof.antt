@@ -1,12 +1,9 @@
 -- `edzl_admit` meets its contract: the refusal of the reading, or the admission of the table that was read, whose numbers make it again.
-use Prim.Native.Nat.{ℕ, _≤_}
 use native.Mathlib.Omega.{arith}
 use mathlib.Core.Path.{_≡_, sym, ap, ap₂, _∙_}
-use mathlib.Core.List.{List}
 use Rattle.laws.proofs.Booleans.{bool-byte}
 use Rattle.tasks.specs.declared.outcome.Outcome.the-variants.{Refused}
 use Rattle.tasks.specs.Check.{checked}
-use Rattle.tasks.specs.Numbers.{tableFrom}
 use Rattle.tasks.proofs.Small.{checked-below}
 use Rattle.reader.specs.Reading.{reading}
 use Rattle.reader.proofs.Small.{reading-below}

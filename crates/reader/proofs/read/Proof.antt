@@ -1,5 +1,8 @@
 -- `read` meets its contract: the table of the numbers that were read, or the refusal.
+use mathlib.Core.Path.{refl}
 use borrow.Author.Needs.{needs}
+use Rattle.tasks.specs.Table.{zeroTask, emptyTable}
+use Rattle.tasks.specs.Numbers.{periodsOf, budgetsOf, deadlinesOf}
 use Rattle.reader.proofs.NumbersRead.{table-is, refusal-is}
 use Rattle.reader.proofs.read.Statement.{statement}
 use Rattle.reader.proofs.read.Tie as tie
@@ -14,14 +17,18 @@ returns-2 c =
     let n = c .before .before in
     refusal-is _ _ _ _ _ (n .number .given .1) (n .before .before .fill .ensures .0) _ (c .refusal .ensures)
 
+fill-requires : tie.Need-fill-requires
+unfolding emptyTable zeroTask periodsOf budgetsOf deadlinesOf
+fill-requires c κs = (refl, refl, refl)
+
 pub read-spec : {M : Type 1} → statement M
 read-spec =
     tie.close
     (tie.spec
-    (λ c κs. search needs)
+    fill-requires
     (λ c. search needs)
-    (λ c κs. search needs)
+    (λ c κs. tt)
     (λ c. search needs)
-    (λ c κs. search needs)
+    (λ c κs. tt)
     returns
     returns-2)

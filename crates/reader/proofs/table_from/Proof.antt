@@ -1,9 +1,9 @@
 -- `table_from` meets its contract. The invariant: the first i entries have the numbers of the lists.
 use Prim.Native.Nat.{ℕ, _-_, _≤_}
 use native.Mathlib.Omega.{arith}
-use mathlib.Core.Path.{_≡_, refl, sym, ap, _∙_}
+use mathlib.Core.Path.{_≡_, refl, sym, ap}
 use mathlib.Core.List.{List}
-use lib.ListN.{length, replicate}
+use lib.ListN.{replicate}
 use Rattle.laws.specs.Lists.{replaced}
 use Rattle.laws.proofs.Replaced.{replaced-more, replaced-at, length-replaced}
 use Rattle.tasks.specs.declared.task.Task.{Task}

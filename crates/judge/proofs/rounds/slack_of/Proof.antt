@@ -1,10 +1,10 @@
--- `slack_of` meets its contract: 0 where the sum without the own part reaches, and else the spare less its quotient by the cores.
+-- `slack_of` meets its contract: what the sum lacks, divided and rounded up, is the new slack of the sum without the own part.
 use Prim.Native.Nat.{_-_, _*_, _≤_, min}
-use native.Mathlib.Nat.{mul-le-mul-right, div-le-of-le-mul}
+use native.Mathlib.Nat.{mul-le-mul-right}
 use native.Mathlib.Omega.{arith}
 use mathlib.Core.Path.{_≡_, sym}
 use borrow.Author.Needs.{needs}
-use Rattle.edzl.proofs.SlackLaws.{new-none, new-some}
+use Rattle.edzl.proofs.SlackLaws.{new-rounded}
 use Rattle.judge.proofs.rounds.slack_of.Statement.{statement}
 use Rattle.judge.proofs.rounds.slack_of.Tie as tie
 
@@ -12,36 +12,34 @@ use Rattle.judge.proofs.rounds.slack_of.Tie as tie
 small : (s : tie.Start) → s .args .cores * (s .args .deadline - s .args .budget) ≤ 16_000_000
 small s = omega (arith, mul-le-mul-right (s .args .deadline - s .args .budget) (s .pre .0 .3))
 
-mul-if1 : tie.Need-mul-if1
-mul-if1 c = omega (arith, small (c .before))
+mul-needed : tie.Need-mul-needed
+mul-needed c = omega (arith, small c)
+
+add-needed : tie.Need-add-needed
+add-needed c = omega (arith, small (c .before), c .own-part .ensures)
+
+add-result : tie.Need-add-result
+add-result c = omega (arith, small (c .before .before), c .before .own-part .ensures, c .left-over .ensures)
 
 returns : tie.Need-returns
 returns c =
-    let a = c .before .before .args in
-    sym
-    (new-none (a .cores) (a .deadline - a .budget) (a .sum - min (a .budget) (a .deadline - a .budget))
-    (omega (arith, c .if1 .taken, c .before .own-part .ensures)))
-
-sub-result : tie.Need-sub-result
-sub-result c = div-le-of-le-mul (c .before .before .args .cores) (omega (arith, c .if1 .left))
-
-returns-2 : tie.Need-returns-2
-returns-2 c =
-    let a = c .before .before .args in
-    rw (c .before .own-part .ensures)
-    (sym
-    (new-some (a .cores) (a .deadline - a .budget) (a .sum - min (a .budget) (a .deadline - a .budget))
-    (omega (arith, c .if1 .left, c .before .own-part .ensures))))
+    let s = c .before .before in
+    let a = s .args in
+    let spare = a .deadline - a .budget in
+    let own = min (a .budget) spare in
+    let lacking : c .left-over .result ≡ a .cores * spare - (a .sum - own) = omega (arith, c .left-over .ensures, c .before .own-part .ensures, s .pre .1) in
+    rw lacking (sym (new-rounded (a .cores) spare (a .sum - own) (s .pre .0 .2)))
 
 pub slack-of-spec : {M : Type 1} → statement M
 slack-of-spec =
     tie.close
     (tie.spec
     (λ c. search needs)
+    mul-needed
     (λ c κs. search needs)
-    (λ c. search needs)
-    mul-if1
-    returns
+    add-needed
+    (λ c κs. search needs)
+    add-result
     (λ c. omega arith)
-    sub-result
-    returns-2)
+    (λ c. omega arith)
+    returns)

@@ -15,26 +15,20 @@ returns c =
 
 returns-2 : tie.Need-returns-2
 returns-2 c =
-    let told = c .before .before .before .before .before .before in
+    let told = c .before .before .before .before in
     let f = told .before .before in
-    let n =
-    zeros-are _ _ _ _ _ (told .enum-told2 .given .1) (f .fill .ensures .0) _ _ _ (c .before .before .before .before .clear4 .ensures)
-    (c .before .before .clear5 .ensures) (c .clear6 .ensures)
-    in
+    let z = c .clear2 .ensures in
+    let n = zeros-are _ _ _ _ _ (told .enum-told2 .given .1) (f .fill .ensures .0) _ _ _ (z .0) (z .1) (z .2) in
     (answer-is _ _ _ (f .fill .ensures .0), (n .periods, (n .budgets, n .deadlines)))
 
 pub read-numbers-spec : {M : Type 1} → statement M
 read-numbers-spec =
     tie.close
     (tie.spec
-    (λ c κs. search needs)
-    (λ c κs. search needs)
-    (λ c κs. search needs)
-    (λ c κs. search needs)
+    (λ c κs. tt)
+    (λ c κs. c .before .before .before .clear .ensures)
     (λ c. search needs)
     returns
     (λ c. search needs)
-    (λ c κs. search needs)
-    (λ c κs. search needs)
-    (λ c κs. search needs)
+    (λ c κs. tt)
     returns-2)
