@@ -1,5 +1,5 @@
 -- The laws of interference. As a function of the window, for a task with 1 ≤ C ≤ T, others cite: `monotone`, `grows`, `period-more`,
--- `first-period`, `at-least`; they come from `staircase`, the value by the whole periods and the rest. Of the other two numbers:
+-- `first-period`, `at-least`, `at-most`; they come from `staircase`, the value by the whole periods and the rest. Of the other two numbers:
 -- `budget-monotone`, `period-antitone`.
 use Prim.Native.Nat.{ℕ, zero, suc, _+_, _*_, _-_, _/_, _%_, _≤_, _<_, min}
 use mathlib.Core.Path.{_≡_, sym}
@@ -61,6 +61,15 @@ module _ (T C : ℕ) (T-some : 1 ≤ T) (C-fits : C ≤ T) where
       by-order L T
       (λ h. omega (arith, first-period L h))
       (λ h. omega (arith, first-period T (le-refl T), monotone T L (omega arith)))
+
+  -- A window holds no more slots than it has.
+  pub at-most : (L : ℕ) → interference T C L ≤ L
+  at-most L =
+      let q = L / T in
+      let r = L % T in
+      let e : L ≡ q * T + r = sym (div-add-mod' L T) in
+      let h : r < T = mod-lt L T-some in
+      omega (arith, staircase q r L e (omega arith), mul-le-mul-left q C-fits)
 
   pub periods-more : (q L : ℕ) → interference T C (L + q * T) ≡ interference T C L + q * C
   periods-more zero L =

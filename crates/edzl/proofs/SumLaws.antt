@@ -1,6 +1,6 @@
 -- The laws of sums over the indexes below n, of sums that leave one index out, and of bits. Others cite: `sum-same`, `sum-monotone`, `sum-strict`, `sum-one-more`,
--- `sum-longer`, `sum-bound`; `others-same`, `others-monotone`, `sum-others`, `others-bound`, `others-gain`; `bit-true`, `bit-false`, `bit-small`, `bit-monotone`
--- and `count-bound`.
+-- `sum-longer`, `sum-bound`; `others-at`, `others-off`, `others-same`, `others-monotone`, `sum-others`, `others-bound`, `others-gain`; `bit-true`, `bit-false`,
+-- `bit-small`, `bit-monotone` and `count-bound`.
 use Prim.Native.Nat.{ℕ, zero, suc, _+_, _*_, _≤_, _<_}
 use mathlib.Core.Path.{_≡_, refl, sym, ap, ap₂}
 use mathlib.Core.Bool.{Bool, true, false}
@@ -48,11 +48,11 @@ sum-bound f b (suc n) h = omega (arith, sum-bound f b n (down n h), h n (omega a
 
 -- A sum that leaves k out: nothing stands at k, and f elsewhere.
 module _ (f : ℕ → ℕ) {i k : ℕ} where
-  others-at : i ≡ k → others k f i ≡ 0
+  pub others-at : i ≡ k → others k f i ≡ 0
   unfolding others
   others-at e = rw (eq-eqb i k e)
 
-  others-off : (i ≡ k → ⊥) → others k f i ≡ f i
+  pub others-off : (i ≡ k → ⊥) → others k f i ≡ f i
   unfolding others
   others-off ne = rw (ne-eqb i k ne)
 

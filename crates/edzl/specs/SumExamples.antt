@@ -1,6 +1,6 @@
--- Examples of sums as large as a table's can be, for document 02's change 7, as entries of a list of computed tests: `allTrue` of crate laws is the test, and
--- the theorem stands in proofs/SumExamplesHold.antt. Tasks are written T, C, D. A task 1,000,000, 1, 1,000,000 has the spare 999,999, and on 16 cores its sum
--- is compared with 15,999,984; a task 1, 1, 1 adds 999,999 to it.
+-- Examples of large sums, for document 02's change 7, as entries of a list of computed tests: `allTrue` of crate laws is the test, and the theorem stands in
+-- proofs/SumExamplesHold.antt. Tasks are written T, C, D. A task 1,000,000, 1, 1,000,000 has the spare 999,999, the largest of all, and on 16 cores its sum is
+-- compared with 15,999,984; a task 1, 1, 1 adds 999,999 to it, which is as much as a task can.
 use Prim.Native.Nat.{ℕ}
 use mathlib.Core.Bool.{Bool, true, false}
 use mathlib.Core.List.{List, [], _∷_}
@@ -21,9 +21,13 @@ countIs tasks m count = eqb (countUrgent (setOf tasks) noSlack m) count
 unfoldable pub longWith : (n : ℕ) → List Numbers
 longWith n = task 1_000_000 1 1_000_000 ∷ replicate n (task 1 1 1)
 
--- the same with 15 of them and one task that adds 999,998
+-- the long task with 15 of them, and a task that adds 999,998
 unfoldable pub oneBelow : List Numbers
 oneBelow = task 1_000_000 1 1_000_000 ∷ task 1_000_000 999_998 999_998 ∷ replicate 15 (task 1 1 1)
+
+-- the long task with 16 of them, and a task that adds 1
+unfoldable pub oneAbove : List Numbers
+oneAbove = task 1_000_000 1 1_000_000 ∷ task 1_000_000 1 1 ∷ replicate 16 (task 1 1 1)
 
 unfoldable pub sumExamples : List Bool
 sumExamples =
@@ -34,10 +38,15 @@ sumExamples =
     -- one below
     firstSumIs oneBelow 15_999_983 ∷
     countIs oneBelow 16 16 ∷
+    slackIs oneBelow 16 2 true ∷
     -- with 16 at
     firstSumIs (longWith 16) 15_999_984 ∷
     countIs (longWith 16) 16 17 ∷
     slackIs (longWith 16) 16 1 false ∷
+    -- one above
+    firstSumIs oneAbove 15_999_985 ∷
+    countIs oneAbove 16 18 ∷
+    slackIs oneAbove 16 1 false ∷
     -- with 31 above
     firstSumIs (longWith 31) 30_999_969 ∷
     countIs (longWith 31) 16 32 ∷

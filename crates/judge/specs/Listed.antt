@@ -1,4 +1,4 @@
--- A table's numbers in flat lists, as the code of the tests holds them.
+-- A table's numbers in flat lists, as the code of the tests holds them, and the inverse of a period.
 use Prim.Native.Nat.{ℕ, _/_, _≤_, _<_}
 use mathlib.Core.Path.{_≡_}
 use mathlib.Core.List.{List}
@@ -28,6 +28,6 @@ Ranges n periods budgets deadlines =
     × (getD deadlines i 0 ≤ getD periods i 0)
     × (getD periods i 0 ≤ maxPeriod)
 
--- The inverse of a period, in 32 bits.
+-- The inverse of a period: the largest number of 32 bits divided by it, rounded down.
 abbrev pub inverseOf : ℕ → ℕ
 inverseOf period = 4_294_967_295 / period

@@ -5,6 +5,7 @@ use tasks::outcome::Outcome;
 use tasks::table::Table;
 
 pub mod admission;
+mod few;
 mod numbers;
 mod rounds;
 pub mod slack;

@@ -1,5 +1,7 @@
 // The sums of the window test, and of a round from those of the round before, of all tasks at once. Each counts the task
 // itself too: the tests allow for that.
+use crate::few::FEW_TASKS;
+use crate::few::sums_anew;
 use edzl::least;
 use tasks::limits::MAX_TASKS;
 ghost use Prim.Native.Nat.{ℕ, _+_, _-_, _*_, _≤_, _<_, min};
@@ -88,6 +90,11 @@ pub(crate) fn window_sums<'a>(
         ≡ windowSum (listed (now (periods .entry)) (now (budgets .entry)) (now (deadlines .entry)) count) noSlack k
         + min (getD (now (budgets .entry)) k 0) (getD (now (deadlines .entry)) k 0 - getD (now (budgets .entry)) k 0)) ⌝ }
 {
+    if count <= FEW_TASKS {
+        let none = [0u32; MAX_TASKS];
+        sums_anew(periods, budgets, deadlines, &none, sums, count);
+        return;
+    }
     let mut i: usize = 0;
     while i < count {
         add_parts(periods[i], budgets[i], budgets, deadlines, sums, count);
@@ -155,6 +162,7 @@ pub(crate) fn next_sums<'a>(
         (λ i. min
         (interference (getD (now periods) i 0) (getD (now budgets) i 0) (getD (now deadlines) k 0 - getD (now before) i 0))
         (getD (now deadlines) k 0 - getD (now budgets) k 0))) ⌝ }
+    requires { ⌜ ((k : ℕ) → k < count → getD (now slacks) k 0 ≤ getD (now deadlines) k 0 - getD (now budgets) k 0) ⌝ }
     ensures { λ _. ⌜ length (now (sums .exit)) ≡ maxTasks ⌝ }
     ensures { λ _. ⌜ ((k : ℕ) → k < count →
         getD (now (sums .exit)) k 0
@@ -164,6 +172,10 @@ pub(crate) fn next_sums<'a>(
         (getD (now (deadlines .entry)) k 0 - getD (now (slacks .entry)) i 0))
         (getD (now (deadlines .entry)) k 0 - getD (now (budgets .entry)) k 0))) ⌝ }
 {
+    if count <= FEW_TASKS {
+        sums_anew(periods, budgets, deadlines, slacks, sums, count);
+        return;
+    }
     let mut i: usize = 0;
     while i < count {
         if before[i] != slacks[i] {

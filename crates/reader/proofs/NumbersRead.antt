@@ -27,7 +27,7 @@ use Rattle.reader.specs.declared.numbers.Counted.the-variants.{Read, Ref
 use Rattle.reader.specs.Names.{eachNamed, columnsOf, threeNames, beginsWithNames}
 use Rattle.reader.specs.Parts.{namesLine, readingFrom}
 use Rattle.reader.specs.Reading.{refused, valueLines, reading}
-use Rattle.reader.specs.Counted.{countedBy, counted}
+use Rattle.reader.specs.Counted.{countedValuesOf, countedIn}
 use Rattle.reader.proofs.NamesLine.{names-read, names-broken}
 
 module _ (s : List ℕ) (r : Counted) (ts : List Task) where
@@ -56,8 +56,8 @@ named s k n e =
     let l = before lineEnd s in
     rw (m .columns) (and-right (eqb (fieldCount l) 3) (eachNamed (columnsOf l)) (and-right (has lineEnd s) (threeNames l) (m .is)))
 
-pub answer-is : (w : Reading) (r : Counted) (ts : List Task) → readingFrom r ts ≡ w → r ≡ counted w
-unfolding counted countedBy readingFrom refused
+pub answer-is : (w : Reading) (r : Counted) (ts : List Task) → readingFrom r ts ≡ w → countedValuesOf r ≡ countedIn w
+unfolding countedValuesOf countedIn readingFrom refused emptyTable
 answer-is w (Read n) ts e = rw (← e)
 answer-is w (Refused number place) ts e = rw (← e)
 

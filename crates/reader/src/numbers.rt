@@ -20,7 +20,7 @@ ghost use Rattle.tasks.specs.Numbers.{periodsOf, budgetsOf, deadlinesOf, tasksF
 ghost use Rattle.reader.specs.Names.{eachNamed};
 ghost use Rattle.reader.specs.Reading.{reading, valueLines};
 ghost use Rattle.reader.specs.Parts.{readingFrom};
-ghost use Rattle.reader.specs.Counted.{counted};
+ghost use Rattle.reader.specs.Counted.{countedValuesOf, countedIn};
 
 // How many tasks the table has, or the refusal's number and place.
 pub enum Counted {
@@ -92,7 +92,7 @@ fn value_lines(
     Counted::Read { count }
 }
 
-// Reads the table of a text into arrays of zeros. Where reading is refused they hold the numbers so far.
+// Reads the table of a text into arrays of zeros. Where reading is refused they are left as they come.
 pub(crate) fn fill(
     text: &[u8],
     periods: &mut [u32; MAX_TASKS],
@@ -120,7 +120,7 @@ pub fn read_numbers(
     budgets: &mut [u32; MAX_TASKS],
     deadlines: &mut [u32; MAX_TASKS],
 ) -> Counted
-    ensures { λ r. ⌜ r ≡ counted (reading (now (text .entry))) ⌝ }
+    ensures { λ r. ⌜ countedValuesOf r ≡ countedIn (reading (now (text .entry))) ⌝ }
     ensures { λ _. ⌜ now (periods .exit) ≡ periodsOf (reading (now (text .entry)) .table .tasks) ⌝ }
     ensures { λ _. ⌜ now (budgets .exit) ≡ budgetsOf (reading (now (text .entry)) .table .tasks) ⌝ }
     ensures { λ _. ⌜ now (deadlines .exit) ≡ deadlinesOf (reading (now (text .entry)) .table .tasks) ⌝ }

@@ -24,7 +24,7 @@ entriesFrom periods budgets deadlines i zero = []
 entriesFrom periods budgets deadlines i (suc n) =
     record { period = getD periods i 0; budget = getD budgets i 0; deadline = getD deadlines i 0 } ∷ entriesFrom periods budgets deadlines (i + 1) n
 
--- all entries of a table
+-- all 32 entries of a table; where a list is shorter its numbers are 0
 unfoldable pub tasksFrom : (periods budgets deadlines : List ℕ) → List Task
 tasksFrom periods budgets deadlines = entriesFrom periods budgets deadlines 0 maxTasks
 

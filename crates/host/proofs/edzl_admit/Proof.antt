@@ -19,7 +19,7 @@ use Rattle.host.proofs.edzl_admit.Tie as tie
 refused :
     (c : tie.After-number)
     → reading (c .before .before .before .before .before .before .before .args .text .now) .outcome ≡ Refused (c .number .given .0 .0) (c .number .given .0 .1 .0)
-refused c = counted-refused _ _ _ (sym (c .before .before .read-numbers .ensures .0) ∙ c .number .given .1)
+refused c = counted-refused _ _ (c .before .before .read-numbers .ensures .0) _ _ (c .number .given .1)
 
 add-result : tie.Need-add-result
 add-result c = omega (arith, reading-below _ _ _ (refused (c .before)))
@@ -30,7 +30,7 @@ returns c = rw (refused (c .before))
 
 -- a text that was read
 was-read : (c : tie.After-count) → CountedRead (c .before .before .before .before .before .before .before .args .text .now) (c .count .given .0 .0)
-was-read c = counted-read _ _ (sym (c .before .before .read-numbers .ensures .0) ∙ c .count .given .1)
+was-read c = counted-read _ _ (c .before .before .read-numbers .ensures .0) _ (c .count .given .1)
 
 -- the numbers that are lent make the table that was read
 same-table :

@@ -6,10 +6,10 @@ use mathlib.Core.Logic.{_⊎_, inl, inr, ⊎-elim}
 use lib.ListN.{length, getD, replicate}
 use Rattle.laws.proofs.Replaced.{replicate-entry}
 use Rattle.edzl.specs.TaskSet.{TaskSet}
-use Rattle.edzl.specs.Window.{windowSum}
+use Rattle.edzl.specs.Window.{spare, windowSum}
 use Rattle.edzl.specs.Slack.{ofTask, allRounds}
 use Rattle.edzl.proofs.WellFormed.{WellFormed}
-use Rattle.edzl.proofs.SlackRounds.{slackAfter}
+use Rattle.edzl.proofs.SlackRounds.{slackAfter, slacks-fit}
 use Rattle.judge.specs.Listed.{listed}
 use Rattle.judge.proofs.Listed.{well-listed}
 use Rattle.judge.proofs.RoundsHeld.{AtRound, Computed, after-round, none-before, first-sum, first-on, next-sum, still-on, last-held}
@@ -82,6 +82,7 @@ returns : tie.Need-returns Inv-loop μ-loop
 returns c = last-is (c .before .before) (inl (c .if1 .taken))
 
 next-sums-requires : tie.Need-next-sums-requires Inv-loop μ-loop
+unfolding spare
 next-sums-requires c κs =
     let l = c .before .before .before .before .before in
     let s = l .before .before .before .before in
@@ -90,7 +91,10 @@ next-sums-requires c κs =
       (s .pre .0 .0, v .inv .2),
       (
         s .pre .1 .0,
-        λ k h. held .sums-are k h ∙ sym (next-sum (tasksIn s) (s .args .cores) (well s) (v .made - 1) (v .before) (held .before-are) k h),
+        (
+          λ k h. held .sums-are k h ∙ sym (next-sum (tasksIn s) (s .args .cores) (well s) (v .made - 1) (v .before) (held .before-are) k h),
+          λ k h. rw (held .slacks-are k h) (slacks-fit (tasksIn s) (s .args .cores) (suc (v .made - 1)) k h),
+        ),
       ),
     )
 
