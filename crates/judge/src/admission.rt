@@ -7,6 +7,7 @@ use tasks::check::check;
 use tasks::check::check_numbers;
 use tasks::limits::MAX_TASKS;
 use tasks::outcome::Outcome;
+use tasks::table::PerTask;
 use tasks::table::Table;
 ghost use Prim.Native.Nat.{_≤_};
 ghost use mathlib.Core.Path.{_≡_};
@@ -36,9 +37,9 @@ impl Admission {
 
 // Whether the slack test admits the first `count` tasks of three arrays. What the window test admits needs no rounds.
 fn admits<'a>(
-    periods: &'a [u32; MAX_TASKS],
-    budgets: &'a [u32; MAX_TASKS],
-    deadlines: &'a [u32; MAX_TASKS],
+    periods: &'a PerTask,
+    budgets: &'a PerTask,
+    deadlines: &'a PerTask,
     count: usize,
     cores: u32,
 ) -> bool
@@ -79,9 +80,9 @@ pub fn admit(table: Table, cores: u32) -> Admission
 
 // Whether the table with these numbers is admitted on a number of cores. Nothing is copied.
 pub fn admit_numbers<'a>(
-    periods: &'a [u32; MAX_TASKS],
-    budgets: &'a [u32; MAX_TASKS],
-    deadlines: &'a [u32; MAX_TASKS],
+    periods: &'a PerTask,
+    budgets: &'a PerTask,
+    deadlines: &'a PerTask,
     count: usize,
     cores: u32,
 ) -> Admission

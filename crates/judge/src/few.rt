@@ -2,7 +2,7 @@
 use crate::sums::left_over;
 use crate::urgent::own_part;
 use edzl::least;
-use tasks::limits::MAX_TASKS;
+use tasks::table::PerTask;
 ghost use Prim.Native.Nat.{ℕ, _+_, _-_, _≤_, _<_, min};
 ghost use mathlib.Core.Path.{_≡_};
 ghost use lib.ListN.{length, getD};
@@ -25,10 +25,10 @@ fn divided_part(period: u32, budget: u32, window: u32, spare: u32) -> u32
 
 // The sum of task k, where each task has its slack. It counts the task itself too.
 fn sum_of<'a>(
-    periods: &'a [u32; MAX_TASKS],
-    budgets: &'a [u32; MAX_TASKS],
-    deadlines: &'a [u32; MAX_TASKS],
-    slacks: &'a [u32; MAX_TASKS],
+    periods: &'a PerTask,
+    budgets: &'a PerTask,
+    deadlines: &'a PerTask,
+    slacks: &'a PerTask,
     count: usize,
     k: usize,
 ) -> u32
@@ -54,11 +54,11 @@ fn sum_of<'a>(
 
 // The sums of the first `count` tasks, where each has its slack.
 pub(crate) fn sums_anew<'a>(
-    periods: &'a [u32; MAX_TASKS],
-    budgets: &'a [u32; MAX_TASKS],
-    deadlines: &'a [u32; MAX_TASKS],
-    slacks: &'a [u32; MAX_TASKS],
-    sums: &mut [u32; MAX_TASKS],
+    periods: &'a PerTask,
+    budgets: &'a PerTask,
+    deadlines: &'a PerTask,
+    slacks: &'a PerTask,
+    sums: &mut PerTask,
     count: usize,
 )
     requires { ⌜ (count ≤ maxTasks) × (length (now sums) ≡ maxTasks) ⌝ }

@@ -1,5 +1,6 @@
 // A table's numbers in flat arrays, which can be lent: an array of tasks would be copied at each call.
 use tasks::limits::MAX_TASKS;
+use tasks::table::PerTask;
 use tasks::task::Task;
 ghost use Prim.Native.Nat.{_≤_};
 ghost use Rattle.tasks.specs.Limits.{maxTasks};
@@ -7,9 +8,9 @@ ghost use Rattle.judge.specs.Listed.{SameNumbers};
 
 // T, C and D of each task, by the task's index.
 pub(crate) struct Numbers {
-    pub(crate) periods: [u32; MAX_TASKS],
-    pub(crate) budgets: [u32; MAX_TASKS],
-    pub(crate) deadlines: [u32; MAX_TASKS],
+    pub(crate) periods: PerTask,
+    pub(crate) budgets: PerTask,
+    pub(crate) deadlines: PerTask,
 }
 
 // The numbers of the first `count` tasks.

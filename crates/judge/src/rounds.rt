@@ -3,6 +3,7 @@ use crate::sums::left_over;
 use crate::sums::next_sums;
 use crate::urgent::own_part;
 use tasks::limits::MAX_TASKS;
+use tasks::table::PerTask;
 ghost use Prim.Native.Nat.{ℕ, _+_, _-_, _≤_, _<_, min};
 ghost use mathlib.Core.Path.{_≡_};
 ghost use mathlib.Core.Bool.{not};
@@ -31,10 +32,10 @@ fn slack_of(budget: u32, deadline: u32, sum: u32, cores: u32) -> u32
 
 // Gives each of the first `count` tasks the slack of its sum, and says how many slacks changed.
 fn next_slacks<'a>(
-    budgets: &'a [u32; MAX_TASKS],
-    deadlines: &'a [u32; MAX_TASKS],
-    sums: &[u32; MAX_TASKS],
-    slacks: &mut [u32; MAX_TASKS],
+    budgets: &'a PerTask,
+    deadlines: &'a PerTask,
+    sums: &PerTask,
+    slacks: &mut PerTask,
     count: usize,
     cores: u32,
 ) -> u32
@@ -66,10 +67,10 @@ fn next_slacks<'a>(
 
 // Makes the rounds from the sums of round 1 on and leaves the sums of the last round: how many rounds were made.
 pub(crate) fn last_round<'a>(
-    periods: &'a [u32; MAX_TASKS],
-    budgets: &'a [u32; MAX_TASKS],
-    deadlines: &'a [u32; MAX_TASKS],
-    sums: &mut [u32; MAX_TASKS],
+    periods: &'a PerTask,
+    budgets: &'a PerTask,
+    deadlines: &'a PerTask,
+    sums: &mut PerTask,
     count: usize,
     cores: u32,
 ) -> u32

@@ -4,6 +4,7 @@ use crate::few::FEW_TASKS;
 use crate::few::sums_anew;
 use edzl::least;
 use tasks::limits::MAX_TASKS;
+use tasks::table::PerTask;
 ghost use Prim.Native.Nat.{ℕ, _+_, _-_, _*_, _≤_, _<_, min};
 ghost use mathlib.Core.Path.{_≡_};
 ghost use lib.ListN.{length, getD};
@@ -46,9 +47,9 @@ fn part_of(period: u32, budget: u32, inverse: u32, window: u32, spare: u32) -> u
 fn add_parts(
     period: u32,
     budget: u32,
-    budgets: &[u32; MAX_TASKS],
-    deadlines: &[u32; MAX_TASKS],
-    sums: &mut [u32; MAX_TASKS],
+    budgets: &PerTask,
+    deadlines: &PerTask,
+    sums: &mut PerTask,
     count: usize,
 )
     requires { ⌜ (1 ≤ period) × (period ≤ maxPeriod) × (budget ≤ period) ⌝ }
@@ -75,10 +76,10 @@ fn add_parts(
 
 // The sums of the window test, which are those of round 1: over all of the first `count` tasks. They are 0 at first.
 pub(crate) fn window_sums<'a>(
-    periods: &'a [u32; MAX_TASKS],
-    budgets: &'a [u32; MAX_TASKS],
-    deadlines: &'a [u32; MAX_TASKS],
-    sums: &mut [u32; MAX_TASKS],
+    periods: &'a PerTask,
+    budgets: &'a PerTask,
+    deadlines: &'a PerTask,
+    sums: &mut PerTask,
     count: usize,
 )
     requires { ⌜ (count ≤ maxTasks) × (length (now sums) ≡ maxTasks) ⌝ }
@@ -109,9 +110,9 @@ fn move_parts(
     budget: u32,
     before: u32,
     slack: u32,
-    budgets: &[u32; MAX_TASKS],
-    deadlines: &[u32; MAX_TASKS],
-    sums: &mut [u32; MAX_TASKS],
+    budgets: &PerTask,
+    deadlines: &PerTask,
+    sums: &mut PerTask,
     count: usize,
 )
     requires { ⌜ (1 ≤ period) × (period ≤ maxPeriod) × (budget ≤ period) ⌝ }
@@ -146,12 +147,12 @@ fn move_parts(
 // The sums of the next round: those with the slacks before become those with the new slacks. Only tasks whose slack
 // changed count for something else.
 pub(crate) fn next_sums<'a>(
-    periods: &'a [u32; MAX_TASKS],
-    budgets: &'a [u32; MAX_TASKS],
-    deadlines: &'a [u32; MAX_TASKS],
-    before: &'a [u32; MAX_TASKS],
-    slacks: &'a [u32; MAX_TASKS],
-    sums: &mut [u32; MAX_TASKS],
+    periods: &'a PerTask,
+    budgets: &'a PerTask,
+    deadlines: &'a PerTask,
+    before: &'a PerTask,
+    slacks: &'a PerTask,
+    sums: &mut PerTask,
     count: usize,
 )
     requires { ⌜ (count ≤ maxTasks) × (length (now sums) ≡ maxTasks) ⌝ }

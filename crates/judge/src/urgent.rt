@@ -3,6 +3,7 @@ use crate::numbers::numbers_of;
 use crate::sums::window_sums;
 use edzl::least;
 use tasks::limits::MAX_TASKS;
+use tasks::table::PerTask;
 use tasks::task::Task;
 ghost use Prim.Native.Nat.{ℕ, _+_, _-_, _*_, _≤_, _<_, min};
 ghost use mathlib.Core.Path.{_≡_};
@@ -26,9 +27,9 @@ pub(crate) fn own_part(budget: u32, spare: u32) -> u32
 // How many tasks have a sum over the others that is at least `cores` times their spare. The sums count the task itself
 // too, so its own part stands on both sides.
 pub(crate) fn count_by_sums<'a>(
-    budgets: &'a [u32; MAX_TASKS],
-    deadlines: &'a [u32; MAX_TASKS],
-    sums: &[u32; MAX_TASKS],
+    budgets: &'a PerTask,
+    deadlines: &'a PerTask,
+    sums: &PerTask,
     count: usize,
     cores: u32,
 ) -> u32

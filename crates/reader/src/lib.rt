@@ -2,6 +2,7 @@
 use crate::numbers::Counted;
 use tasks::limits::MAX_TASKS;
 use tasks::outcome::Outcome;
+use tasks::table::PerTask;
 use tasks::table::Table;
 use tasks::task::Task;
 
@@ -33,9 +34,9 @@ fn refusal(number: u32, place: u32) -> Reading
 // The table of so many tasks whose numbers stand in three arrays.
 fn table_from<'a>(
     count: usize,
-    periods: &'a [u32; MAX_TASKS],
-    budgets: &'a [u32; MAX_TASKS],
-    deadlines: &'a [u32; MAX_TASKS],
+    periods: &'a PerTask,
+    budgets: &'a PerTask,
+    deadlines: &'a PerTask,
 ) -> Table
     ensures { λ r. ⌜ r ≡ tableFrom (now (periods .entry)) (now (budgets .entry)) (now (deadlines .entry)) count ⌝ }
 {

@@ -11,6 +11,7 @@ use tasks::refusals::NO_TASK;
 use tasks::refusals::TASK_OUT_OF_RANGE;
 use tasks::refusals::TEXT_TOO_LONG;
 use tasks::refusals::TOO_MANY_TASKS;
+use tasks::table::PerTask;
 ghost use mathlib.Core.Path.{_≡_};
 ghost use mathlib.Core.Bool.{true};
 ghost use lib.ListN.{length};
@@ -36,11 +37,7 @@ fn refusal(number: u32, place: u32) -> Counted
 }
 
 // Makes all numbers 0, as those of the empty table are.
-fn clear(
-    periods: &mut [u32; MAX_TASKS],
-    budgets: &mut [u32; MAX_TASKS],
-    deadlines: &mut [u32; MAX_TASKS],
-)
+fn clear(periods: &mut PerTask, budgets: &mut PerTask, deadlines: &mut PerTask)
     ensures { λ _. let none = emptyTable .tasks in
         ⌜ (now (periods .exit) ≡ periodsOf none) × (now (budgets .exit) ≡ budgetsOf none) × (now (deadlines .exit) ≡ deadlinesOf none) ⌝ }
 {
@@ -53,9 +50,9 @@ fn clear(
 fn value_lines(
     text: &[u8],
     columns: Columns,
-    periods: &mut [u32; MAX_TASKS],
-    budgets: &mut [u32; MAX_TASKS],
-    deadlines: &mut [u32; MAX_TASKS],
+    periods: &mut PerTask,
+    budgets: &mut PerTask,
+    deadlines: &mut PerTask,
 ) -> Counted
     requires { ⌜ eachNamed columns ≡ true ⌝ }
     requires { let none = emptyTable .tasks in
@@ -95,9 +92,9 @@ fn value_lines(
 // Reads the table of a text into arrays of zeros. Where reading is refused they are left as they come.
 pub(crate) fn fill(
     text: &[u8],
-    periods: &mut [u32; MAX_TASKS],
-    budgets: &mut [u32; MAX_TASKS],
-    deadlines: &mut [u32; MAX_TASKS],
+    periods: &mut PerTask,
+    budgets: &mut PerTask,
+    deadlines: &mut PerTask,
 ) -> Counted
     requires { let none = emptyTable .tasks in
         ⌜ (now periods ≡ periodsOf none) × (now budgets ≡ budgetsOf none) × (now deadlines ≡ deadlinesOf none) ⌝ }
@@ -116,9 +113,9 @@ pub(crate) fn fill(
 // Reads the table of a text into three arrays: T, C and D of each task by its index, and 0 past the last one. Where reading is refused all are 0.
 pub fn read_numbers(
     text: &[u8],
-    periods: &mut [u32; MAX_TASKS],
-    budgets: &mut [u32; MAX_TASKS],
-    deadlines: &mut [u32; MAX_TASKS],
+    periods: &mut PerTask,
+    budgets: &mut PerTask,
+    deadlines: &mut PerTask,
 ) -> Counted
     ensures { λ r. ⌜ countedValuesOf r ≡ countedIn (reading (now (text .entry))) ⌝ }
     ensures { λ _. ⌜ now (periods .exit) ≡ periodsOf (reading (now (text .entry)) .table .tasks) ⌝ }

@@ -6,6 +6,7 @@ use crate::refusals::CORES_OUT_OF_RANGE;
 use crate::refusals::NO_TASK;
 use crate::refusals::TASK_OUT_OF_RANGE;
 use crate::refusals::TOO_MANY_TASKS;
+use crate::table::PerTask;
 use crate::table::Table;
 use crate::task::Task;
 ghost use Prim.Native.Nat.{_+_, _≤_};
@@ -36,9 +37,9 @@ fn first_out_of_range(tasks: [Task; MAX_TASKS], count: usize) -> u32
 
 // The same of the tasks whose numbers stand in three arrays.
 fn first_number_out_of_range<'a>(
-    periods: &'a [u32; MAX_TASKS],
-    budgets: &'a [u32; MAX_TASKS],
-    deadlines: &'a [u32; MAX_TASKS],
+    periods: &'a PerTask,
+    budgets: &'a PerTask,
+    deadlines: &'a PerTask,
     count: usize,
 ) -> u32
     requires { ⌜ count ≤ maxTasks ⌝ }
@@ -117,9 +118,9 @@ pub fn check(table: Table, cores: u32) -> Outcome
 
 // The same of the table with the numbers of three arrays. Nothing is copied.
 pub fn check_numbers<'a>(
-    periods: &'a [u32; MAX_TASKS],
-    budgets: &'a [u32; MAX_TASKS],
-    deadlines: &'a [u32; MAX_TASKS],
+    periods: &'a PerTask,
+    budgets: &'a PerTask,
+    deadlines: &'a PerTask,
     count: usize,
     cores: u32,
 ) -> Outcome

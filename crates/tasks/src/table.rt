@@ -10,6 +10,9 @@ pub struct Table {
     pub tasks: [Task; MAX_TASKS],
 }
 
+// A number for each task, by its index.
+pub type PerTask = [u32; MAX_TASKS];
+
 impl Table {
     // The table of zero tasks with all its numbers 0.
     pub fn empty() -> Self
