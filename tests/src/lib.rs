@@ -36,6 +36,7 @@ pub mod slack_counter;
 pub mod slow;
 pub mod sum_lines;
 pub mod tables;
+pub mod tally;
 pub mod tasks;
 pub mod texts;
 pub mod ties;

@@ -2,23 +2,17 @@
 //! cores: the model, whose sums are of 64 bits, against the C entry and the programs of
 //! both tests. SEED and TABLES change which and how many; some 3,000 meet every event.
 
-use std::collections::BTreeMap;
-use std::io::{Write, stdout};
-use std::ops::Range;
-
 use edzl_tests::held::{Answer, HARMLESS_CAP, RIGHT};
 use edzl_tests::random::Random;
+use edzl_tests::tally::{self, Tally};
 use edzl_tests::tasks::{MOST_CORES, Task};
 use edzl_tests::texts::{ORDERS, write};
-use edzl_tests::{extremes, host, oracle, parts, program, settings, slack, sum_lines, window};
+use edzl_tests::{extremes, host, oracle, program, settings, slack, sum_lines, window};
 
 const TABLES: u64 = 4_000;
 
 // One table in so many goes through the programs.
 const PROGRAM_STRIDE: u64 = 8;
-
-// How often each event was met.
-type Tally = BTreeMap<String, u64>;
 
 fn text(seed: u64, index: u64) -> (Vec<Task>, Vec<u8>) {
     let mut random = Random::new(seed, index);
@@ -89,48 +83,14 @@ fn compare(seed: u64, index: u64, tally: &mut Tally) -> Result<(), String> {
     Ok(())
 }
 
-fn compare_all(seed: u64, part: Range<u64>) -> Result<Tally, String> {
-    let mut tally = Tally::default();
-    for index in part {
-        let result = compare(seed, index, &mut tally);
-        result.map_err(|failure| format!("seed {seed}, table {index}: {failure}"))?;
-    }
-    Ok(tally)
-}
-
-// Written past the test harness, which hides what a passing test prints.
-fn report(tally: &Tally, tables: u64, seed: u64) {
-    let mut report = format!("\n{tables} tables at the edges of the numbers, seed {seed}:\n");
-    for (name, times) in tally {
-        report += &format!("  {times:>9} {name}\n");
-    }
-    stdout().write_all(report.as_bytes()).expect("a report");
-}
-
-// A comparison that never met an event says nothing about it, and no other may be met.
-fn require(tally: &Tally) {
-    let mut expected = sum_lines::names();
-    expected.sort_unstable();
-    let met: Vec<&String> = tally.keys().collect();
-    assert_eq!(
-        met,
-        expected.iter().collect::<Vec<_>>(),
-        "met, and expected"
-    );
-}
-
 #[test]
 fn generated_tables() {
     let seed = settings::number("SEED", settings::SEED);
     let tables = settings::number("TABLES", TABLES);
-    let mut tally = Tally::default();
-    for part in parts::in_parts(tables, |part| compare_all(seed, part)) {
-        for (name, times) in part.unwrap_or_else(|failure| panic!("{failure}")) {
-            *tally.entry(name).or_default() += times;
-        }
-    }
-    report(&tally, tables, seed);
-    require(&tally);
+    let tally = tally::of_all(seed, tables, |index, tally| compare(seed, index, tally));
+    let title = format!("{tables} tables at the edges of the numbers, seed {seed}");
+    tally::report(&title, &tally);
+    tally::require(&tally, sum_lines::names());
 }
 
 // The form from which the wrong versions are made, with every number whole, answers as

@@ -2,18 +2,12 @@
 //! everything that it prints against the model, and beside what the verdict program
 //! prints. SEED and TABLES change which and how many; some 2,000 meet every event.
 
-use std::collections::BTreeMap;
-use std::io::{Write, stdout};
-use std::ops::Range;
-
 use edzl_tests::random::Random;
+use edzl_tests::tally::{self, Tally};
 use edzl_tests::texts::{ORDERS, write};
-use edzl_tests::{oracle, parts, program, reading, settings, sharper_lines, slow, tables, texts};
+use edzl_tests::{oracle, program, reading, settings, sharper_lines, slow, tables, texts};
 
 const TABLES: u64 = 4_000;
-
-// How often each event was met.
-type Tally = BTreeMap<String, u64>;
 
 // Any text, refused ones among them, or tables near the edges of both tests and near
 // 64 rounds.
@@ -83,47 +77,16 @@ fn compare(text: &[u8], tally: &mut Tally) -> Result<(), String> {
     Ok(())
 }
 
-fn compare_all(seed: u64, part: Range<u64>) -> Result<Tally, String> {
-    let mut tally = Tally::default();
-    for index in part {
-        let result = compare(&text(seed, index), &mut tally);
-        result.map_err(|failure| format!("seed {seed}, table {index}: {failure}"))?;
-    }
-    Ok(tally)
-}
-
-// Written past the test harness, which hides what a passing test prints.
-fn report(tally: &Tally, tables: u64, seed: u64) {
-    let mut report = format!("\nsharper compared on {tables} texts, seed {seed}:\n");
-    for (name, times) in tally {
-        report += &format!("  {times:>9} {name}\n");
-    }
-    stdout().write_all(report.as_bytes()).expect("a report");
-}
-
-// A comparison that never met an event says nothing about it, and no other may be met.
-fn require(tally: &Tally) {
-    let refused = (1..=6).map(|number| format!("REFUSED {number}"));
-    let mut expected: Vec<String> = sharper_lines::names().into_iter().chain(refused).collect();
-    expected.sort_unstable();
-    let met: Vec<&String> = tally.keys().collect();
-    assert_eq!(
-        met,
-        expected.iter().collect::<Vec<_>>(),
-        "met, and expected"
-    );
-}
-
 #[test]
 fn generated_texts_through_sharper() {
     let seed = settings::number("SEED", settings::SEED);
     let tables = settings::number("TABLES", TABLES);
-    let mut tally = Tally::default();
-    for part in parts::in_parts(tables, |part| compare_all(seed, part)) {
-        for (name, times) in part.unwrap_or_else(|failure| panic!("{failure}")) {
-            *tally.entry(name).or_default() += times;
-        }
-    }
-    report(&tally, tables, seed);
-    require(&tally);
+    let tally = tally::of_all(seed, tables, |index, tally| {
+        compare(&text(seed, index), tally)
+    });
+    let title = format!("sharper compared on {tables} texts, seed {seed}");
+    tally::report(&title, &tally);
+    let refused = (1..=6).map(|number| format!("REFUSED {number}"));
+    let expected = sharper_lines::names().into_iter().chain(refused);
+    tally::require(&tally, expected.collect());
 }
