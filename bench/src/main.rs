@@ -1,4 +1,5 @@
-//! Measures the proved library against plain Rust and plain C, side by side.
+//! Measures the proved library against plain Rust and plain C, side by side. With a number of
+//! tasks it only makes the calls, once each, so that another program can count their instructions.
 
 mod plain;
 mod slots;
@@ -7,6 +8,9 @@ mod timing;
 mod verdicts;
 
 fn main() {
+    if let Some(tasks) = std::env::args().nth(1) {
+        return verdicts::call(tasks.parse().expect("a number of tasks"));
+    }
     verdicts::print();
     println!();
     slots::print();

@@ -99,6 +99,15 @@ fn lines(tasks: usize) {
     line(tasks, "both", &[window, slack].concat());
 }
 
+/// Calls each of the three once on every text near a boundary, and prints how many these are.
+pub fn call(tasks: usize) {
+    let window = near_window_boundary(tasks, TABLES);
+    let slack = near_slack_boundary(tasks, TABLES);
+    let cases: Vec<&Case> = window.iter().chain(&slack).collect();
+    compare(&cases);
+    println!("{}", cases.len());
+}
+
 /// Compares the three on every text, then prints the lines of each size.
 pub fn print() {
     let others: Vec<Case> = refused().into_iter().chain(cut_off()).collect();
