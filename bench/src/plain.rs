@@ -76,7 +76,7 @@ impl Table {
 /// What the slack test finds.
 pub struct Verdict {
     pub admitted: bool,
-    /// How many times the sums were added up; the window test's count as the first.
+    /// How many times the sums were taken; the window test's count as the first.
     pub rounds: u32,
 }
 

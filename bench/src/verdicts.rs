@@ -60,7 +60,7 @@ fn times(cases: &[&Case]) -> [f64; 3] {
     [best[0], best[1], best[2]].map(|time| time * 1e9 / CALLS as f64)
 }
 
-// How often the sums are added up for a text of the group.
+// How often the sums are taken for a text of the group.
 fn mean_rounds(cases: &[&Case]) -> f64 {
     let rounds = |case: &&Case| match plain::judge(&case.text, case.cores) {
         Ok(verdict) => f64::from(verdict.rounds),

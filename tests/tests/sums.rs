@@ -172,8 +172,8 @@ fn at_the_bound_and_one_below_on_every_number_of_cores() {
 }
 
 // Neighbours of the task: a spare of 999,998 three ways, and of 1. 16 times the spare is
-// at m·A, and 15 times below it leaves a slack: 14,999,970/16 and 15/16, rounded down, are
-// 937,498 and 0.
+// at m·A, and 15 times is below it and leaves a slack: 14,999,970/16 and 15/16, rounded
+// down, are 937,498 and 0.
 #[test]
 fn other_spares() {
     let one_less = [

@@ -1,5 +1,5 @@
 -- The laws of interference. As a function of the window, for a task with 1 ≤ C ≤ T, others cite: `monotone`, `grows`, `period-more`,
--- `first-period`, `at-least`, `at-most`; they come from `staircase`, the value by the whole periods and the rest. Of the other two numbers:
+-- `first-period`, `at-least`, `at-most`, and `staircase`, from which they come, the value by the whole periods and the rest. Of the other two numbers:
 -- `budget-monotone`, `period-antitone`.
 use Prim.Native.Nat.{ℕ, zero, suc, _+_, _*_, _-_, _/_, _%_, _≤_, _<_, min}
 use mathlib.Core.Path.{_≡_, sym}

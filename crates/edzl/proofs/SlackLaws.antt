@@ -1,5 +1,5 @@
--- Laws of a new slack. Others cite: `new-none` and `new-some`, what it is by whether the sum reaches; `new-fits` and `new-antitone`; `new-ahead`, by which a
--- job is ahead by it; and `new-rounded`, what it is without that test.
+-- Laws of a new slack: `new-none` and `new-some`, what it is by whether the sum reaches. Others cite `new-fits` and `new-antitone`; `new-ahead`, by which a job is
+-- ahead by it; and `new-rounded`, what it is without that test.
 use Prim.Native.Nat.{ℕ, _+_, _*_, _-_, _/_, _%_, _≤_, _<_}
 use mathlib.Core.Path.{_≡_, sym, ap, _∙_}
 use native.Mathlib.Nat.{mul-comm, lt-of-mul-lt-mul-left, le-div-iff-mul-le, div-mul-le-self, div-add-mod', div-eq-of-lt-le, mod-lt}

@@ -31,23 +31,23 @@ oneAbove = task 1_000_000 1 1_000_000 ∷ task 1_000_000 1 1 ∷ replicate 16 (t
 
 unfoldable pub sumExamples : List Bool
 sumExamples =
-    -- with 15 below
+    -- 15 tasks 1, 1, 1: below m·A
     firstSumIs (longWith 15) 14_999_985 ∷
     countIs (longWith 15) 16 15 ∷
     slackIs (longWith 15) 16 2 true ∷
-    -- one below
+    -- one below it
     firstSumIs oneBelow 15_999_983 ∷
     countIs oneBelow 16 16 ∷
     slackIs oneBelow 16 2 true ∷
-    -- with 16 at
+    -- 16: at it
     firstSumIs (longWith 16) 15_999_984 ∷
     countIs (longWith 16) 16 17 ∷
     slackIs (longWith 16) 16 1 false ∷
-    -- one above
+    -- one above it
     firstSumIs oneAbove 15_999_985 ∷
     countIs oneAbove 16 18 ∷
     slackIs oneAbove 16 1 false ∷
-    -- with 31 above
+    -- 31: the largest sum
     firstSumIs (longWith 31) 30_999_969 ∷
     countIs (longWith 31) 16 32 ∷
     slackIs (longWith 31) 16 1 false ∷

@@ -1,5 +1,5 @@
 -- Why a part is exact where its whole periods are guessed. The guess is the upper half of the window times the period's inverse: the quotient of the
--- two, or one less. Others cite `guessed`, and for the ranges `inverse-fits` and `product-fits`.
+-- two, or one less. Others cite `guessed` with `Guessed` and `half`, and for the range `product-fits`.
 use Prim.Native.Nat.{ℕ, suc, _+_, _*_, _-_, _/_, _%_, _^_, _≤_, _<_, min}
 use mathlib.Core.Path.{_≡_, sym}
 use native.Mathlib.Nat.{mul-le-mul, mul-le-mul-left, mul-comm, mul-left-comm, le-of-mul-le-mul-left, lt-of-mul-lt-mul-left}
@@ -22,10 +22,10 @@ pub record Guessed (T C L S g : ℕ) : Type 0 where
   pub budgets : g * C ≤ g * T
   pub part-is : min (g * C + min C (L - g * T) + min C (L - g * T - T)) S ≡ min (interference T C L) S
 
-pub inverse-fits : (T : ℕ) → inverseOf T < half
+inverse-fits : (T : ℕ) → inverseOf T < half
 inverse-fits T = omega (arith, div-le-self 4_294_967_295 T)
 
--- The inverse times the period is below the scale, by at most the period.
+-- The inverse times the period is below 2^32, by at most the period.
 next-below : (T : ℕ) → 1 ≤ T → (T * inverseOf T < half) × (half ≤ T * inverseOf T + T)
 next-below T T-some = omega (arith, div-add-mod' 4_294_967_295 T, mod-lt 4_294_967_295 T-some, mul-comm (inverseOf T) T)
 
@@ -36,7 +36,7 @@ module _ (T C L : ℕ) (T-some : 1 ≤ T) (C-fits : C ≤ T) (L-fits : L ≤ 1_0
       mul-le-mul L-fits h
 
   -- No more whole periods than fit, and at most one too few.
-  pub record Near (g : ℕ) : Type 0 where
+  record Near (g : ℕ) : Type 0 where
     pub low : g * T ≤ L
     pub high : L < g * T + (T + T)
 

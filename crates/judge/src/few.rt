@@ -1,5 +1,5 @@
 // The sums of few tasks, added up anew in each round with a division for each part: where they are so few, that is faster than sums.rt.
-use crate::sums::left_over;
+use crate::sums::saturating_sub;
 use crate::urgent::own_part;
 use edzl::least;
 use tasks::table::PerTask;
@@ -10,7 +10,7 @@ ghost use Rattle.tasks.specs.Limits.{maxTasks, maxPeriod};
 ghost use Rattle.edzl.specs.Window.{interference, windowSum};
 ghost use Rattle.judge.specs.Listed.{listed, Ranges};
 
-// So many tasks are few.
+// Up to so many tasks are few.
 pub(crate) const FEW_TASKS: usize = 3;
 
 // What a task counts for in the sum of one with this window and this spare.
@@ -44,7 +44,7 @@ fn sum_of<'a>(
     let mut i: usize = 0;
     while i < count {
         if i != k {
-            let window = left_over(deadline, slacks[i]);
+            let window = saturating_sub(deadline, slacks[i]);
             sum = sum + divided_part(periods[i], budgets[i], window, spare);
         }
         i += 1;

@@ -1,6 +1,6 @@
 // The rounds of the slack test: document 02, change 6.
-use crate::sums::left_over;
 use crate::sums::next_sums;
+use crate::sums::saturating_sub;
 use crate::urgent::own_part;
 use tasks::limits::MAX_TASKS;
 use tasks::table::PerTask;
@@ -27,7 +27,7 @@ fn slack_of(budget: u32, deadline: u32, sum: u32, cores: u32) -> u32
 {
     let spare = deadline - budget;
     let needed = cores * spare + own_part(budget, spare);
-    (left_over(needed, sum) + cores - 1) / cores
+    (saturating_sub(needed, sum) + cores - 1) / cores
 }
 
 // Gives each of the first `count` tasks the slack of its sum, and says how many slacks changed.

@@ -14,7 +14,7 @@ ghost use Rattle.edzl.specs.Sums.{sumTo};
 ghost use Rattle.judge.specs.Listed.{listed, Ranges, inverseOf};
 
 // What is left of a number when another is taken from it: nothing at least.
-pub(crate) fn left_over(number: u32, taken: u32) -> u32
+pub(crate) fn saturating_sub(number: u32, taken: u32) -> u32
     ensures { λ r. ⌜ r ≡ number - taken ⌝ }
 {
     if taken < number { number - taken } else { 0 }
@@ -38,7 +38,7 @@ fn part_of(period: u32, budget: u32, inverse: u32, window: u32, spare: u32) -> u
 {
     let guess = (window as u64 * inverse as u64 >> 32) as u32;
     let left = window - guess * period;
-    let more = left_over(left, period);
+    let more = saturating_sub(left, period);
     let interference = guess * budget + least(budget, left) + least(budget, more);
     least(interference, spare)
 }
@@ -137,8 +137,20 @@ fn move_parts(
     while k < count {
         let deadline = deadlines[k];
         let spare = deadline - budgets[k];
-        let old = part_of(period, budget, inverse, left_over(deadline, before), spare);
-        let new = part_of(period, budget, inverse, left_over(deadline, slack), spare);
+        let old = part_of(
+            period,
+            budget,
+            inverse,
+            saturating_sub(deadline, before),
+            spare,
+        );
+        let new = part_of(
+            period,
+            budget,
+            inverse,
+            saturating_sub(deadline, slack),
+            spare,
+        );
         sums[k] = sums[k] - old + new;
         k += 1;
     }

@@ -1,5 +1,5 @@
--- What the answer of `read_numbers` says of the reading. Others cite `counted-refused`, of a refusal, and `counted-read`, of a table that was read: its
--- numbers make it again.
+-- What the answer of `read_numbers` says of the reading. Others cite `counted-refused`, of a refusal, and `counted-read`, of a table that was read
+-- (`CountedRead`): its numbers make it again.
 use Prim.Native.Nat.{ℕ}
 use mathlib.Core.Path.{_≡_, sym, ap}
 use mathlib.Core.List.{List}

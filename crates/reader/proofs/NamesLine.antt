@@ -1,4 +1,5 @@
--- What the names line of a text s is where its reader stops, by the names that it finds; and what it says of a text: `names-read`, `names-broken`.
+-- What the names line of a text s is where its reader stops, by the names that it finds: `no-first`, `no-second`, `name-twice`, `no-third` and `all-three`, with
+-- `first-fits` and `second-fits`; and what it says of a text: `names-read`, `names-broken`.
 use Prim.Native.Nat.{ℕ, _+_, _-_, _≤_}
 use native.Mathlib.Omega.{arith}
 use mathlib.Core.Path.{_≡_, sym, ap, _∙_}

@@ -1,4 +1,5 @@
--- Texts that begin with names: the three names as numbers, and which name a text begins with, as the code finds it. Others cite `At` with `at-name`
+-- Texts that begin with names: the three names as numbers (`name`, in any order `Order`), and which name a text begins with, as the code finds it (`nameAt`, with its
+-- `fieldLength`). Others cite these, `At` with `at-name`
 -- (what a name that was found says of a text), `Begins` with `begins` (what is found in a text that begins with a name), and `Naming` with `naming`
 -- (three fields, where each name is one of them).
 use Prim.Native.Nat.{ℕ, zero, suc, _+_, _≤_, _<_}

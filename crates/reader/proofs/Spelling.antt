@@ -1,5 +1,5 @@
--- A text that begins with the three names once each. Others cite `FoundThree` (what the code finds in a text is those), `spelling` (so it is where the
--- text has a names line), and `in-columns` (the names line of such a text).
+-- A text that begins with the three names once each. Others cite `secondName` and `thirdName` (what the code finds in a text), `FoundThree` (what it finds is
+-- those), `spelling` (so it is where the text has a names line), and `in-columns` (the names line of such a text, with its `columns`).
 use Prim.Native.Nat.{ℕ}
 use native.Mathlib.Omega.{arith}
 use mathlib.Core.Path.{_≡_, refl}

@@ -1,5 +1,6 @@
--- What the value line of a text s is where its reader stops: `no-first`, `no-second` and `no-third` at a value that is none, by what the reader of a
--- value says (`ended`, `not-ended`), and `all-three`, with `fits`; what it says of a text: `line-read`, `line-broken`; and `columns-below`.
+-- What the value line of a text s is where its reader stops: its `Answer` by `no-first`, `no-second` and `no-third` at a value that is none, by what the reader of
+-- a value says (`ended`, `not-ended`), and by `all-three`, with `fits`; what it says of a text: `line-read`, with `LineRead`, and `line-broken`; and
+-- `columns-below`.
 use Prim.Native.Nat.{ℕ, zero, suc, _+_, _≤_, _<_}
 use native.Mathlib.Omega.{arith}
 use mathlib.Core.Path.{_≡_, refl, sym, _∙_}

@@ -1,5 +1,5 @@
--- One turn over the value lines, whose numbers go to three lists. Others cite `Reading-on`, the state of the reading between two lines, with `begin`
--- and `next`, `none-long`, and what the whole reading is where it stops: `no-task`, `finish`, `too-many`, `bad-line` and `bad-task`.
+-- One turn over the value lines, whose numbers go to three lists. Others cite `Reading-on`, the state of the reading between two lines, with `begin`,
+-- `next` and `shorter`, `none-long`, and what the whole reading is where it stops: `no-task`, `finish`, `too-many`, `bad-line` and `bad-task`.
 use Prim.Native.Nat.{ℕ, zero, suc, _+_, _-_, _≤_, _<_}
 use native.Mathlib.Omega.{arith}
 use mathlib.Core.Path.{_≡_, sym, ap, _∙_}

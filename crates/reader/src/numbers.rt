@@ -89,7 +89,7 @@ fn value_lines(
     Counted::Read { count }
 }
 
-// Reads the table of a text into arrays of zeros. Where reading is refused they are left as they come.
+// Reads the table of a text into arrays of zeros. Where reading is refused they keep the numbers of the lines before.
 pub(crate) fn fill(
     text: &[u8],
     periods: &mut PerTask,

@@ -1,5 +1,5 @@
 -- A table's numbers in three lists. Others cite `entryAt`, `entry-from`, an entry; `from-entries`, all of them; `from-lists`, that the lists of entries make these entries; of lists as long
--- as a table `periods-from`, `budgets-from` and `deadlines-from`, that their entries have these numbers, and `set-from`, an entry replaced.
+-- as a table (`Long`) `periods-from`, `budgets-from` and `deadlines-from`, that their entries have these numbers, and `set-from`, an entry replaced.
 use Prim.Native.Nat.{ℕ, zero, suc, _+_, _<_}
 use native.Mathlib.Nat.{add-zero}
 use native.Mathlib.Omega.{arith}
@@ -39,7 +39,7 @@ module _ (periods budgets deadlines : List ℕ) where
   length-entries zero i = refl
   length-entries (suc n) i = ap suc (length-entries n (i + 1))
 
-  pub length-from : length (tasksFrom periods budgets deadlines) ≡ maxTasks
+  length-from : length (tasksFrom periods budgets deadlines) ≡ maxTasks
   unfolding tasksFrom
   length-from = length-entries maxTasks 0
 

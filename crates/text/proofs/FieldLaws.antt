@@ -1,5 +1,5 @@
--- Laws of the fields of a line. Others cite how many there are (`count-one`, `count-more`, `count-positive`), that a line of three fields is these
--- with a space between them (`three-whole`), and that it has no more (`no-more`).
+-- Laws of the fields of a line. Others cite how many there are (`count-one`, `count-more`, `count-positive`), and that a line of three fields is
+-- these with a space between them (`three-whole`).
 use Prim.Native.Nat.{ℕ, zero, suc, _≤_}
 use native.Mathlib.Omega.{arith}
 use mathlib.Core.Path.{_≡_, refl, sym, ap, _∙_}
@@ -8,7 +8,7 @@ use mathlib.Core.List.{List, [], _∷_, _++_}
 use lib.Dec.{eqb}
 use Rattle.laws.proofs.CaseSplits.{by-test}
 use Rattle.text.specs.Lines.{space, has, before, after, fieldCount, field}
-use Rattle.text.proofs.Split.{here, gone, gone-rest}
+use Rattle.text.proofs.Split.{here, gone}
 
 -- a line with no space has one field
 pub count-one : (l : List ℕ) → has space l ≡ false → fieldCount l ≡ 1
@@ -50,13 +50,3 @@ three-whole l n =
     ∙ ap (λ (t : List ℕ). before space l ++ space ∷ t)
     (here space r (has-second l n) .whole
     ∙ ap (λ (t : List ℕ). before space r ++ space ∷ t) (sym (gone space (after space r) (no-third l n))))
-
--- past the third field there is nothing
-no-field : (i : ℕ) → field i [] ≡ []
-unfolding field before after
-no-field zero = refl
-no-field (suc i) = no-field i
-
-pub no-more : (l : List ℕ) → fieldCount l ≡ 3 → (i : ℕ) → field (suc (suc (suc i))) l ≡ []
-unfolding field
-no-more l n i = rw (gone-rest space (after space (after space l)) (no-third l n)) (no-field i)

@@ -1,5 +1,5 @@
 -- `divided_part` meets its contract: the interference as it is defined, and no step of it is above the window and a budget.
-use Prim.Native.Nat.{_+_, _*_, _/_, _≤_}
+use Prim.Native.Nat.{_*_, _/_, _≤_}
 use native.Mathlib.Nat.{mul-le-mul-left, div-mul-le-self}
 use native.Mathlib.Omega.{arith}
 use mathlib.Core.Path.{_∙_}

@@ -1,8 +1,8 @@
 -- `sum_of` meets its contract. The invariant: the own part, and the sum over the others before i.
-use Prim.Native.Nat.{ℕ, _+_, _-_, _*_, _≤_, min}
+use Prim.Native.Nat.{ℕ, _+_, _-_, _*_, _≤_}
 use native.Mathlib.Numerals.{add-one}
 use native.Mathlib.Omega.{arith}
-use mathlib.Core.Path.{_≡_, refl, sym, _∙_}
+use mathlib.Core.Path.{_≡_, _∙_}
 use mathlib.Core.Logic.{⊎-elim}
 use mathlib.Core.List.{List}
 use lib.ListN.{getD}
@@ -11,7 +11,7 @@ use Rattle.edzl.specs.Sums.{sumTo}
 use Rattle.edzl.specs.Window.{others, spare, windowSum}
 use Rattle.edzl.proofs.SumLaws.{others-at, others-off}
 use Rattle.judge.specs.Listed.{listed}
-use Rattle.judge.proofs.OwnPart.{part, partOf, ownPart}
+use Rattle.judge.proofs.OwnPart.{partOf, ownPart}
 use Rattle.judge.proofs.few.sum_of.Statement.{statement}
 use Rattle.judge.proofs.few.sum_of.Tie as tie
 
@@ -44,7 +44,7 @@ divided-part-requires c κs =
     let s = l .before .before .before .before .before in
     let r = s .pre .1 (l .loop .i) (omega arith) in
     let own = s .pre .1 (s .args .k) (s .pre .0 .1) in
-    (omega (arith, r), omega (arith, r), omega (arith, c .before .before .left-over .ensures, own))
+    (omega (arith, r), omega (arith, r), omega (arith, c .before .before .saturating-sub .ensures, own))
 
 -- The part of task i.
 part-is :
@@ -52,7 +52,7 @@ part-is :
     → let l = c .before .before .before .before .before .before .before in
     let a = l .before .before .before .before .before .args in
     c .divided-part .result ≡ partIn (a .periods .now) (a .budgets .now) (a .deadlines .now) (a .slacks .now) (a .count) (a .k) (l .loop .i)
-part-is c = c .divided-part .ensures ∙ rw (c .before .before .before .left-over .ensures)
+part-is c = c .divided-part .ensures ∙ rw (c .before .before .before .saturating-sub .ensures)
 
 add-sum : tie.Need-add-sum Inv-loop μ-loop
 add-sum c =

@@ -8,7 +8,7 @@ use Rattle.edzl.proofs.SlackLaws.{new-rounded}
 use Rattle.judge.proofs.rounds.slack_of.Statement.{statement}
 use Rattle.judge.proofs.rounds.slack_of.Tie as tie
 
--- What the cores can take of the spare is small.
+-- The cores times the spare is small.
 small : (s : tie.Start) → s .args .cores * (s .args .deadline - s .args .budget) ≤ 16_000_000
 small s = omega (arith, mul-le-mul-right (s .args .deadline - s .args .budget) (s .pre .0 .3))
 
@@ -19,7 +19,7 @@ add-needed : tie.Need-add-needed
 add-needed c = omega (arith, small (c .before), c .own-part .ensures)
 
 add-result : tie.Need-add-result
-add-result c = omega (arith, small (c .before .before), c .before .own-part .ensures, c .left-over .ensures)
+add-result c = omega (arith, small (c .before .before), c .before .own-part .ensures, c .saturating-sub .ensures)
 
 returns : tie.Need-returns
 returns c =
@@ -27,7 +27,7 @@ returns c =
     let a = s .args in
     let spare = a .deadline - a .budget in
     let own = min (a .budget) spare in
-    let lacking : c .left-over .result ≡ a .cores * spare - (a .sum - own) = omega (arith, c .left-over .ensures, c .before .own-part .ensures, s .pre .1) in
+    let lacking : c .saturating-sub .result ≡ a .cores * spare - (a .sum - own) = omega (arith, c .saturating-sub .ensures, c .before .own-part .ensures, s .pre .1) in
     rw lacking (sym (new-rounded (a .cores) spare (a .sum - own) (s .pre .0 .2)))
 
 pub slack-of-spec : {M : Type 1} → statement M

@@ -39,13 +39,13 @@ part-of-requires : tie.Need-part-of-requires Inv-loop μ-loop
 part-of-requires c κs =
     let l = c .before .before .before .before in
     let p = l .before .before .pre in
-    ((p .0 .0, p .0 .1, p .0 .2, omega (arith, p .1 .1 .1 .0 (l .loop .k) (omega arith), c .left-over .ensures)), l .before .inverse-of .ensures)
+    ((p .0 .0, p .0 .1, p .0 .2, omega (arith, p .1 .1 .1 .0 (l .loop .k) (omega arith), c .saturating-sub .ensures)), l .before .inverse-of .ensures)
 
 part-of-requires-2 : tie.Need-part-of-requires-2 Inv-loop μ-loop
 part-of-requires-2 c κs =
     let l = c .before .before .before .before .before .before in
     let p = l .before .before .pre in
-    ((p .0 .0, p .0 .1, p .0 .2, omega (arith, p .1 .1 .1 .0 (l .loop .k) (omega arith), c .left-over2 .ensures)), l .before .inverse-of .ensures)
+    ((p .0 .0, p .0 .1, p .0 .2, omega (arith, p .1 .1 .1 .0 (l .loop .k) (omega arith), c .saturating-sub2 .ensures)), l .before .inverse-of .ensures)
 
 -- The sum of task k is still that before.
 sum-before : (l : tie.At-loop Inv-loop μ-loop) → getD (l .loop .sums) (l .loop .k) 0 ≡ getD (l .before .before .args .sums .now) (l .loop .k) 0
@@ -58,7 +58,7 @@ old-part : (c : tie.After-part-of Inv-loop μ-loop) →
     let k = l .loop .k in
     c .part-of .result
     ≡ part (a .period) (a .budget) (getD (a .deadlines .now) k 0 - a .before) (getD (a .deadlines .now) k 0) (getD (a .budgets .now) k 0)
-old-part c = c .part-of .ensures ∙ rw (c .before .left-over .ensures)
+old-part c = c .part-of .ensures ∙ rw (c .before .saturating-sub .ensures)
 
 new-part : (c : tie.After-part-of2 Inv-loop μ-loop) →
     let l = c .before .before .before .before .before .before .before in
@@ -66,7 +66,7 @@ new-part : (c : tie.After-part-of2 Inv-loop μ-loop) →
     let k = l .loop .k in
     c .part-of2 .result
     ≡ part (a .period) (a .budget) (getD (a .deadlines .now) k 0 - a .slack) (getD (a .deadlines .now) k 0) (getD (a .budgets .now) k 0)
-new-part c = c .part-of2 .ensures ∙ rw (c .before .left-over2 .ensures)
+new-part c = c .part-of2 .ensures ∙ rw (c .before .saturating-sub2 .ensures)
 
 sub-sums : tie.Need-sub-sums Inv-loop μ-loop
 sub-sums c =

@@ -54,7 +54,7 @@ returns c =
     let result :
     c .least3 .result
     ≡ min (guess * a .budget + min (a .budget) (a .window - guess * a .period) + min (a .budget) (a .window - guess * a .period - a .period)) (a .spare)
-    = c .least3 .ensures ∙ rw (e .least .ensures, d .least2 .ensures, f .left-over .ensures) in
+    = c .least3 .ensures ∙ rw (e .least .ensures, d .least2 .ensures, f .saturating-sub .ensures) in
     result ∙ computed (f .before) .part-is
 
 pub part-of-spec : {M : Type 1} → statement M
