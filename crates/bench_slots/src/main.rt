@@ -1,8 +1,8 @@
 // Plays many slots of the table on standard input, on half as many cores as tasks, and prints a checksum: for benchmarks.
 use job::job::Job;
 use machine::answer::Report;
-use machine::answer::mask;
 use machine::machine::Machine;
+use tasks::flags::mask;
 use tasks::limits::MAX_TASKS;
 use tasks::limits::MAX_TEXT_LENGTH;
 use text::output::put_numbers;

@@ -10,8 +10,8 @@ use lib.Dec.{eqb}
 use lib.ListN.{length, getD, set, List·getD-eq-default}
 use borrow.Author.Tests.{eqb-true, eq-eqb, ne-eqb}
 use Rattle.laws.proofs.CaseSplits.{by-test, by-equal, by-order, not-both}
-use Rattle.edzl.specs.Sums.{sumTo, bit}
-use Rattle.edzl.proofs.SumLaws.{sum-bound, bit-false}
+use Rattle.laws.specs.Sums.{sumTo, bit}
+use Rattle.laws.proofs.SumLaws.{sum-bound, bit-false}
 use Rattle.cores.specs.Assign.{isAmong}
 
 pub some-inside : (l : List ℕ) (i : ℕ) → 1 ≤ getD l i 0 → i < length l

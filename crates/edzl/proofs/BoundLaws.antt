@@ -9,9 +9,10 @@ use native.Mathlib.Omega.{arith}
 use borrow.Author.Tests.{le-leb}
 use Rattle.edzl.specs.TaskSet.{TaskSet}
 use Rattle.edzl.proofs.WellFormed.{TaskFits}
-use Rattle.edzl.specs.Window.{interference, spare, others, windowSum, mayTurnUrgent}
+use Rattle.laws.specs.Sums.{others}
+use Rattle.edzl.specs.Window.{interference, spare, windowSum, mayTurnUrgent}
 use Rattle.laws.proofs.CaseSplits.{by-order, by-test}
-use Rattle.edzl.proofs.SumLaws.{sum-longer, others-monotone}
+use Rattle.laws.proofs.SumLaws.{sum-longer, others-monotone}
 use Rattle.edzl.proofs.WindowLaws.{SameTask}
 use Rattle.edzl.proofs.Potential.{openClaim, closedClaim, start-open, start-closed}
 use Rattle.edzl.proofs.Invariant.{Jobs, Bound, Held, SameJob, allowance, claim, lost, used, held-open, held-closed}

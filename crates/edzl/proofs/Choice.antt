@@ -6,10 +6,10 @@ use mathlib.Core.Bool.{Bool, true, false}
 use mathlib.Core.Logic.{_⊎_, ⊎-elim}
 use native.Mathlib.Omega.{arith}
 use Rattle.edzl.specs.TaskSet.{TaskSet}
-use Rattle.edzl.specs.Sums.{sumTo, bit}
+use Rattle.laws.specs.Sums.{sumTo, bit}
 use Rattle.edzl.specs.Window.{mayTurnUrgent, countUrgent}
 use Rattle.laws.proofs.CaseSplits.{by-order, by-test}
-use Rattle.edzl.proofs.SumLaws.{sum-strict, bit-true, bit-false, bit-monotone}
+use Rattle.laws.proofs.SumLaws.{sum-strict, bit-true, bit-false, bit-monotone}
 use Rattle.edzl.proofs.Invariant.{Jobs, Invariant}
 use Rattle.edzl.proofs.BoundLaws.{urgent-counted}
 

@@ -6,8 +6,8 @@ use mathlib.Core.Path.{_≡_}
 use mathlib.Core.Bool.{Bool, true, false, cond}
 use native.Mathlib.Omega.{arith}
 use Rattle.edzl.specs.TaskSet.{TaskSet}
-use Rattle.edzl.specs.Window.{interference, spare, others}
-use Rattle.edzl.specs.Sums.{sumTo}
+use Rattle.edzl.specs.Window.{interference, spare}
+use Rattle.laws.specs.Sums.{sumTo, others}
 use Rattle.laws.proofs.CaseSplits.{not-both}
 use Rattle.edzl.proofs.Potential.{openClaim, closedClaim}
 

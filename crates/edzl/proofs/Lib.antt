@@ -1,6 +1,5 @@
 pub mod WellFormed
 pub mod InterferenceLaws
-pub mod SumLaws
 pub mod WindowLaws
 pub mod Potential
 pub mod Invariant

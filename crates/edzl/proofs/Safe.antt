@@ -6,7 +6,7 @@ use mathlib.Core.Bool.{Bool, true}
 use native.Mathlib.Omega.{arith}
 use Rattle.edzl.specs.TaskSet.{TaskSet}
 use Rattle.edzl.proofs.WellFormed.{WellFormed}
-use Rattle.edzl.specs.Sums.{bit}
+use Rattle.laws.specs.Sums.{bit}
 use Rattle.edzl.specs.Window.{spare, windowSum}
 use Rattle.edzl.specs.Slack.{slackAdmits}
 use Rattle.edzl.proofs.Invariant.{Jobs, Invariant, Ahead, SlackFits, Fresh, lost, fresh-starts}

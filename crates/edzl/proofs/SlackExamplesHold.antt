@@ -4,8 +4,8 @@ use mathlib.Core.Path.{_≡_, refl}
 use mathlib.Core.Bool.{Bool, true}
 use Rattle.laws.specs.Lists.{replaced}
 use Rattle.laws.specs.Examples.{sameNumbers, allTrue}
-use Rattle.edzl.specs.Sums.{sumTo, bit}
-use Rattle.edzl.specs.Window.{interference, spare, others, noSlack, windowSum, mayTurnUrgent, countUrgent, admitted}
+use Rattle.laws.specs.Sums.{sumTo, bit, others}
+use Rattle.edzl.specs.Window.{interference, spare, noSlack, windowSum, mayTurnUrgent, countUrgent, admitted}
 use Rattle.edzl.specs.Slack.{perTask, ofTask, roundSums, reaches, newSlack, noRound, nextRound, noneChanges, roundsFrom, allRounds, countReaching, slackAdmits}
 use Rattle.edzl.specs.SlackExamples.{task, setOf, slackIs, windowRefuses, lastIs, fourTasks, cutTasks, slackExamples}
 

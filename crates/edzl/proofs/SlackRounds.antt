@@ -14,7 +14,7 @@ use Rattle.edzl.specs.TaskSet.{TaskSet}
 use Rattle.edzl.specs.Window.{spare, noSlack, windowSum, mayTurnUrgent, countUrgent, admitted}
 use Rattle.edzl.specs.Slack.{perTask, ofTask, roundSums, reaches, newSlack, Rounds, noRound, nextRound, roundsFrom, allRounds, countReaching, slackAdmits}
 use Rattle.edzl.proofs.WellFormed.{WellFormed}
-use Rattle.edzl.proofs.SumLaws.{sum-same, sum-monotone, bit-monotone}
+use Rattle.laws.proofs.SumLaws.{sum-same, sum-monotone, bit-monotone}
 use Rattle.edzl.proofs.SlackLaws.{new-fits, new-antitone}
 use Rattle.edzl.proofs.WindowLaws.{SameTask, same-task, spare-same, sum-of-same, sum-grows, admitted-few}
 

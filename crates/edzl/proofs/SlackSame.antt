@@ -6,10 +6,10 @@ use mathlib.Core.List.{List}
 use lib.Dec.{leb, eqb}
 use Rattle.laws.proofs.Replaced.{replaced-same}
 use Rattle.edzl.specs.TaskSet.{TaskSet}
-use Rattle.edzl.specs.Sums.{sumTo, bit}
+use Rattle.laws.specs.Sums.{sumTo, bit}
 use Rattle.edzl.specs.Window.{spare}
 use Rattle.edzl.specs.Slack.{perTask, ofTask, roundSums, reaches, newSlack, Rounds, noRound, nextRound, noneChanges, roundsFrom, allRounds, countReaching, slackAdmits}
-use Rattle.edzl.proofs.SumLaws.{sum-same}
+use Rattle.laws.proofs.SumLaws.{sum-same}
 use Rattle.edzl.proofs.WindowLaws.{SameTask, spare-same, sum-of-same}
 
 module _ (tasks tasks' : TaskSet) (same-count : tasks' .count ≡ tasks .count) (same : (i : ℕ) → i < tasks .count → SameTask tasks tasks' i) where

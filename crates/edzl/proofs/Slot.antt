@@ -7,9 +7,9 @@ use native.Mathlib.Nat.{le-refl, le-trans}
 use native.Mathlib.Omega.{arith}
 use Rattle.edzl.specs.TaskSet.{TaskSet}
 use Rattle.edzl.proofs.WellFormed.{WellFormed}
-use Rattle.edzl.specs.Sums.{bit}
+use Rattle.laws.specs.Sums.{bit}
 use Rattle.laws.proofs.CaseSplits.{by-order, by-test}
-use Rattle.edzl.proofs.SumLaws.{bit-true}
+use Rattle.laws.proofs.SumLaws.{bit-true}
 use Rattle.edzl.proofs.Potential.{openClaim, finish, pass-open, pass-closed, take}
 use Rattle.edzl.proofs.Invariant.{Jobs, NoJob, Invariant, claim}
 use Rattle.edzl.proofs.BoundLaws.{claim-open, claim-closed}

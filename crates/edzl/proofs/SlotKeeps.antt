@@ -8,10 +8,9 @@ use native.Mathlib.Nat.{le-trans}
 use native.Mathlib.Omega.{arith}
 use Rattle.edzl.specs.TaskSet.{TaskSet}
 use Rattle.edzl.proofs.WellFormed.{WellFormed}
-use Rattle.edzl.specs.Sums.{sumTo, bit}
-use Rattle.edzl.specs.Window.{others}
+use Rattle.laws.specs.Sums.{sumTo, bit, others}
 use Rattle.laws.proofs.CaseSplits.{by-order, by-test, not-both}
-use Rattle.edzl.proofs.SumLaws.{others-gain, bit-true, bit-false}
+use Rattle.laws.proofs.SumLaws.{others-gain, bit-true, bit-false}
 use Rattle.edzl.proofs.Invariant.{Jobs, Bound, Invariant, claim, lost, used, invariant, held-open, held-closed}
 use Rattle.edzl.proofs.BoundLaws.{bound-kept}
 use Rattle.edzl.proofs.Choice.{UrgentRun, neither-urgent}

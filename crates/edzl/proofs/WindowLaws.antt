@@ -8,10 +8,10 @@ use native.Mathlib.Omega.{arith}
 use borrow.Author.Tests.{leb-true}
 use Rattle.edzl.specs.TaskSet.{TaskSet}
 use Rattle.edzl.specs.Window.{interference, spare, noSlack, windowSum, mayTurnUrgent, countUrgent, admitted}
-use Rattle.edzl.specs.Sums.{sumTo, bit}
+use Rattle.laws.specs.Sums.{sumTo, bit}
 use Rattle.edzl.proofs.WellFormed.{WellFormed}
 use Rattle.edzl.proofs.InterferenceLaws.{monotone}
-use Rattle.edzl.proofs.SumLaws.{sum-same, sum-longer, others-same, others-monotone}
+use Rattle.laws.proofs.SumLaws.{sum-same, sum-longer, others-same, others-monotone}
 
 -- One task is the same in both sets.
 pub record SameTask (shorter longer : TaskSet) (i : ℕ) : Type 0 where

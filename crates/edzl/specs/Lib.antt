@@ -1,5 +1,4 @@
 pub mod TaskSet
-pub mod Sums
 pub mod Window
 pub mod Slack
 pub mod SlackExamples

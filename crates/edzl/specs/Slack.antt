@@ -6,7 +6,7 @@ use lib.Dec.{leb, eqb}
 use lib.ListN.{getD, replicate}
 use Rattle.laws.specs.Lists.{replaced}
 use Rattle.edzl.specs.TaskSet.{TaskSet}
-use Rattle.edzl.specs.Sums.{sumTo, bit}
+use Rattle.laws.specs.Sums.{sumTo, bit}
 use Rattle.edzl.specs.Window.{spare, windowSum}
 
 -- A list with a number for each task, f 0 to f (count − 1), and the number of task i in such a list.

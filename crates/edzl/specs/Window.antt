@@ -1,9 +1,9 @@
 -- The window test, with a slack for each task (document 01, "The window test", where all slacks are zero).
 use Prim.Native.Nat.{ℕ, _+_, _*_, _-_, _/_, min}
-use mathlib.Core.Bool.{Bool, cond}
-use lib.Dec.{leb, eqb}
+use mathlib.Core.Bool.{Bool}
+use lib.Dec.{leb}
 use Rattle.edzl.specs.TaskSet.{TaskSet}
-use Rattle.edzl.specs.Sums.{sumTo, bit}
+use Rattle.laws.specs.Sums.{sumTo, others, bit}
 
 -- "The interference of task i in a window of L slots is I_i(L) = q·C_i + min(C_i, L − q·T_i), where q is L divided by T_i,
 -- rounded down"
@@ -15,10 +15,6 @@ interference period budget window =
 -- "The spare of task k is A_k = D_k − C_k."
 unfoldable pub spare : TaskSet → ℕ → ℕ
 spare tasks k = tasks .deadline k - tasks .budget k
-
--- "over every i other than k": f, with nothing at k.
-unfoldable pub others : ℕ → (ℕ → ℕ) → ℕ → ℕ
-others k f i = cond (eqb i k) 0 (f i)
 
 -- The slack of each task in document 01's test: "with all slacks zero".
 unfoldable pub noSlack : ℕ → ℕ

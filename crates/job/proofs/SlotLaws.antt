@@ -3,7 +3,7 @@
 use mathlib.Core.Path.{_≡_, refl}
 use mathlib.Core.Bool.{Bool, true, false, _||_}
 use borrow.Author.Tests.{eq-eqb, ne-eqb}
-use Rattle.edzl.specs.Sums.{bit}
+use Rattle.laws.specs.Sums.{bit}
 use Rattle.laws.proofs.CaseSplits.{by-test}
 use Rattle.job.specs.Job.{freshJob, closedJob}
 use Rattle.job.specs.Slot.{charged, aged, isFinished, isLate, settled}

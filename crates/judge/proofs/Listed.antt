@@ -16,7 +16,7 @@ use Rattle.tasks.specs.Table.{zeroTask}
 use Rattle.tasks.specs.Numbers.{tasksFrom}
 use Rattle.tasks.proofs.Numbers.{entryAt, entry-from}
 use Rattle.tasks.proofs.Range.{range-of}
-use Rattle.edzl.specs.Sums.{sumTo, bit}
+use Rattle.laws.specs.Sums.{sumTo, bit}
 use Rattle.edzl.specs.Window.{noSlack, windowSum, mayTurnUrgent, countUrgent, admitted}
 use Rattle.edzl.specs.Slack.{ofTask, reaches, allRounds, countReaching, slackAdmits}
 use Rattle.edzl.proofs.WellFormed.{WellFormed}

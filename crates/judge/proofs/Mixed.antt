@@ -9,8 +9,8 @@ use lib.Dec.{ltb}
 use lib.ListN.{getD}
 use borrow.Author.Tests.{lt-ltb, le-ltb}
 use Rattle.laws.proofs.CaseSplits.{by-order}
-use Rattle.edzl.specs.Sums.{sumTo}
-use Rattle.edzl.proofs.SumLaws.{sum-same, sum-others, others-same}
+use Rattle.laws.specs.Sums.{sumTo}
+use Rattle.laws.proofs.SumLaws.{sum-same, sum-others, others-same}
 
 abbrev pub mixed : (before slacks : List ℕ) (i j : ℕ) → ℕ
 mixed before slacks i j = cond (ltb j i) (getD slacks j 0) (getD before j 0)

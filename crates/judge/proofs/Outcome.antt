@@ -12,7 +12,7 @@ use Rattle.tasks.specs.Check.{checked}
 use Rattle.tasks.proofs.Checked.{passes, checked-numbered}
 use Rattle.tasks.proofs.OutcomeLaws.{by-outcome, Numbered}
 use Rattle.edzl.specs.Window.{noSlack, mayTurnUrgent, countUrgent, admitted}
-use Rattle.edzl.proofs.SumLaws.{count-bound}
+use Rattle.laws.proofs.SumLaws.{count-bound}
 use Rattle.tasks.specs.TaskSet.{firstTasks, tasksOf}
 use Rattle.judge.specs.declared.Verdict.the-variants.{Judged, Refused}
 use Rattle.judge.specs.Judge.{refusedValues, valuesOf, judgedAfter, judged}

@@ -8,11 +8,11 @@ use mathlib.Core.Path.{_≡_, ap, _∙_}
 use lib.Dec.{leb}
 use Rattle.edzl.specs.TaskSet.{TaskSet}
 use Rattle.edzl.specs.Window.{interference, spare, noSlack, windowSum}
-use Rattle.edzl.specs.Sums.{sumTo, bit}
+use Rattle.laws.specs.Sums.{sumTo, bit}
 use Rattle.edzl.proofs.WellFormed.{WellFormed}
 use Rattle.laws.proofs.Tests.{same-leb}
 use Rattle.edzl.proofs.InterferenceLaws.{first-period}
-use Rattle.edzl.proofs.SumLaws.{sum-same, sum-others}
+use Rattle.laws.proofs.SumLaws.{sum-same, sum-others}
 
 -- What a task of this period and budget counts for in the sum of one with the deadline D and the budget B, in a window of L slots.
 abbrev pub part : (period budget L D B : ℕ) → ℕ

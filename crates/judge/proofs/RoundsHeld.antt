@@ -10,11 +10,11 @@ use lib.Dec.{eqb}
 use lib.ListN.{getD}
 use borrow.Author.Tests.{eq-eqb, ne-eqb}
 use Rattle.edzl.specs.TaskSet.{TaskSet}
-use Rattle.edzl.specs.Sums.{sumTo, bit}
+use Rattle.laws.specs.Sums.{sumTo, bit}
 use Rattle.edzl.specs.Window.{spare, noSlack, windowSum}
 use Rattle.edzl.specs.Slack.{ofTask, newSlack, noneChanges, roundsFrom, allRounds}
 use Rattle.edzl.proofs.WellFormed.{WellFormed}
-use Rattle.edzl.proofs.SumLaws.{sum-same}
+use Rattle.laws.proofs.SumLaws.{sum-same}
 use Rattle.edzl.proofs.SlackRounds.{roundAfter, slackAfter, sum-next, slack-next, slacks-fit, made-is, round-one, slack-start}
 use Rattle.judge.proofs.OwnPart.{partOf, ownPart, sum-with-own}
 

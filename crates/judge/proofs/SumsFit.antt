@@ -13,11 +13,11 @@ use Rattle.tasks.specs.Check.{checked}
 use Rattle.tasks.specs.TaskSet.{firstTasks, tasksOf}
 use Rattle.tasks.proofs.Checked.{passes}
 use Rattle.tasks.proofs.Range.{Range, range-of}
-use Rattle.edzl.specs.Sums.{sumTo}
+use Rattle.laws.specs.Sums.{sumTo}
 use Rattle.edzl.specs.Window.{interference, spare, windowSum}
 use Rattle.edzl.specs.Slack.{newSlack}
 use Rattle.edzl.proofs.InterferenceLaws.{at-most}
-use Rattle.edzl.proofs.SumLaws.{sum-bound, others-bound}
+use Rattle.laws.proofs.SumLaws.{sum-bound, others-bound}
 use Rattle.edzl.proofs.SlackLaws.{new-fits}
 
 module _ (t : Table) (m : ℕ) (judges : checked t m ≡ Done) where

@@ -10,7 +10,7 @@ ghost use mathlib.Core.Bool.{not};
 ghost use lib.Dec.{eqb};
 ghost use lib.ListN.{length, getD};
 ghost use Rattle.tasks.specs.Limits.{maxTasks, maxCores, maxPeriod};
-ghost use Rattle.edzl.specs.Sums.{sumTo, bit};
+ghost use Rattle.laws.specs.Sums.{sumTo, bit};
 ghost use Rattle.edzl.specs.Window.{windowSum, noSlack};
 ghost use Rattle.edzl.specs.Slack.{ofTask, newSlack, allRounds};
 ghost use Rattle.judge.specs.Listed.{listed, Ranges};

@@ -10,7 +10,7 @@ ghost use mathlib.Core.Path.{_≡_};
 ghost use lib.ListN.{length, getD};
 ghost use Rattle.tasks.specs.Limits.{maxTasks, maxPeriod};
 ghost use Rattle.edzl.specs.Window.{interference, noSlack, windowSum};
-ghost use Rattle.edzl.specs.Sums.{sumTo};
+ghost use Rattle.laws.specs.Sums.{sumTo};
 ghost use Rattle.judge.specs.Listed.{listed, Ranges, inverseOf};
 
 // What is left of a number when another is taken from it: nothing at least.

@@ -13,7 +13,7 @@ ghost use lib.ListN.{getD};
 ghost use Rattle.tasks.specs.Limits.{maxTasks, maxCores, maxPeriod};
 ghost use Rattle.tasks.specs.Task.{inRange};
 ghost use Rattle.tasks.specs.Table.{zeroTask};
-ghost use Rattle.edzl.specs.Sums.{sumTo, bit};
+ghost use Rattle.laws.specs.Sums.{sumTo, bit};
 ghost use Rattle.edzl.specs.Window.{countUrgent, noSlack};
 ghost use Rattle.tasks.specs.TaskSet.{firstTasks};
 

@@ -8,9 +8,9 @@ use native.Mathlib.Omega.{arith}
 use borrow.Author.Tests.{eq-eqb}
 use Rattle.tasks.specs.declared.task.Task.{Task}
 use Rattle.tasks.specs.Table.{withTask}
-use Rattle.edzl.specs.Sums.{bit}
+use Rattle.laws.specs.Sums.{bit}
 use Rattle.laws.proofs.CaseSplits.{by-order, by-equal, by-test, not-both}
-use Rattle.edzl.proofs.SumLaws.{bit-true, bit-false}
+use Rattle.laws.proofs.SumLaws.{bit-true, bit-false}
 use Rattle.edzl.proofs.Invariant.{SameJob}
 use Rattle.tasks.specs.TaskSet.{firstTasks, tasksOf}
 use Rattle.machine.specs.Machine.{jobAt, withJob}

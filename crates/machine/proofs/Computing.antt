@@ -16,7 +16,7 @@ use Rattle.machine.specs.Sound.{jobsSound, sound}
 use Rattle.machine.specs.Calls.{done, refuse, startAfter, start, release, finish, slotCoresInRange, slot, withJoined, joinAfter, join, step}
 use Rattle.machine.specs.Play.{play}
 use Rattle.machine.specs.InTime.{isSlot, acceptedSlot}
-use Rattle.machine.specs.Mask.{mask}
+use Rattle.tasks.specs.Flags.{mask}
 use Rattle.tasks.specs.Written.{task, tableWith, tableOf}
 use Rattle.machine.specs.Cases.{slotLines, sameLines, releases, allReleased, session, holds, line, example}
 

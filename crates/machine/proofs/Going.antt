@@ -6,7 +6,7 @@ use mathlib.Core.Bool.{Bool, true, false}
 use mathlib.Core.List.{List}
 use lib.ListN.{getD}
 use native.Mathlib.Omega.{arith}
-use Rattle.edzl.specs.Sums.{bit}
+use Rattle.laws.specs.Sums.{bit}
 use Rattle.edzl.proofs.Invariant.{SameJob}
 use Rattle.tasks.specs.TaskSet.{firstTasks, tasksOf}
 use Rattle.machine.specs.Machine.{jobAt}

@@ -9,7 +9,7 @@ use Rattle.tasks.specs.declared.task.Task.{Task}
 use Rattle.tasks.specs.declared.table.Table.{Table}
 use Rattle.tasks.specs.Limits.{maxTasks}
 use Rattle.tasks.specs.Table.{withTask}
-use Rattle.edzl.specs.Sums.{bit}
+use Rattle.laws.specs.Sums.{bit}
 use Rattle.edzl.specs.Slack.{slackAdmits}
 use Rattle.edzl.proofs.Invariant.{Fresh}
 use Rattle.edzl.proofs.Safe.{Safe, safe-fresh, safe-release, safe-finish, safe-slot, on-time, safe-join}

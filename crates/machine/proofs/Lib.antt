@@ -24,7 +24,6 @@ pub mod Going
 pub mod Closing
 pub mod InTimeLaws
 pub mod InTimeHolds
-pub mod MaskTurn
 pub mod Computing
 pub mod CasesHold
 pub mod ExamplesHold

@@ -9,8 +9,8 @@ use lib.ListN.{getD, set, length, length-set, length-replicate}
 use lib.Seq.{getD-set-same, getD-set-other}
 use Rattle.laws.proofs.CaseSplits.{by-equal, not-both}
 use Rattle.laws.proofs.Replaced.{replicate-entry}
-use Rattle.edzl.specs.Sums.{sumTo, bit}
-use Rattle.edzl.proofs.SumLaws.{sum-bound, sum-one-more, bit-true, bit-false}
+use Rattle.laws.specs.Sums.{sumTo, bit}
+use Rattle.laws.proofs.SumLaws.{sum-bound, sum-one-more, bit-true, bit-false}
 use Rattle.tasks.specs.Limits.{maxTasks}
 use Rattle.job.proofs.Next.{Behind, Found}
 use Rattle.machine.specs.Machine.{jobAt}

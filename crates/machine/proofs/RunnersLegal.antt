@@ -10,8 +10,8 @@ use lib.ListN.{getD}
 use borrow.Author.Tests.{leb-true, le-leb, lt-leb}
 use Rattle.laws.proofs.CaseSplits.{by-order, by-test, not-both}
 use Rattle.laws.proofs.Booleans.{and-left, and-right}
-use Rattle.edzl.specs.Sums.{bit}
-use Rattle.edzl.proofs.SumLaws.{sum-strict, bit-true, bit-false, bit-monotone}
+use Rattle.laws.specs.Sums.{bit}
+use Rattle.laws.proofs.SumLaws.{sum-strict, bit-true, bit-false, bit-monotone}
 use Rattle.edzl.proofs.Choice.{Beats, more-urgent, both-urgent, neither-urgent, LegalChoice}
 use Rattle.tasks.specs.Limits.{maxTasks, maxCores}
 use Rattle.job.specs.Job.{isUrgent}

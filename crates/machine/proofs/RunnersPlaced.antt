@@ -6,8 +6,8 @@ use mathlib.Core.List.{List}
 use native.Mathlib.Omega.{arith}
 use lib.ListN.{length, getD, take}
 use lib.Seq.{getD-take}
-use Rattle.edzl.specs.Sums.{sumTo, bit}
-use Rattle.edzl.proofs.SumLaws.{sum-same}
+use Rattle.laws.specs.Sums.{sumTo, bit}
+use Rattle.laws.proofs.SumLaws.{sum-same}
 use Rattle.cores.specs.Assign.{isAmong}
 use Rattle.cores.proofs.AmongLaws.{among-few}
 use Rattle.cores.proofs.RecordLaws.{sound-apart}

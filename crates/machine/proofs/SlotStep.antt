@@ -8,7 +8,7 @@ use native.Mathlib.Omega.{arith}
 use lib.Dec.{eqb}
 use lib.ListN.{getD, length, replicate, length-replicate, List·getD-eq-default}
 use borrow.Author.Tests.{eqb-true, eqb-false, eq-eqb, not-true}
-use Rattle.edzl.specs.Sums.{bit}
+use Rattle.laws.specs.Sums.{bit}
 use Rattle.laws.proofs.CaseSplits.{by-order, by-equal, not-both}
 use Rattle.laws.proofs.Booleans.{and-left, and-right}
 use Rattle.laws.specs.Lists.{replaced}

@@ -7,8 +7,8 @@ use native.Mathlib.Omega.{arith}
 use lib.ListN.{length, getD, length-replicate}
 use Rattle.laws.proofs.CaseSplits.{clash}
 use Rattle.laws.proofs.Replaced.{replicate-entry, length-replaced}
-use Rattle.edzl.specs.Sums.{sumTo, bit}
-use Rattle.edzl.proofs.SumLaws.{sum-bound, bit-false}
+use Rattle.laws.specs.Sums.{sumTo, bit}
+use Rattle.laws.proofs.SumLaws.{sum-bound, bit-false}
 use Rattle.tasks.specs.declared.outcome.Outcome.the-variants.{Refused}
 use Rattle.tasks.specs.Limits.{maxTasks, maxCores}
 use Rattle.machine.specs.Slot.{ranCount, noReport, slotReport}

@@ -9,8 +9,8 @@ use lib.ListN.{getD}
 use borrow.Author.Tests.{not-true}
 use Rattle.laws.proofs.CaseSplits.{by-test, not-both}
 use Rattle.laws.proofs.Booleans.{and-left, and-right}
-use Rattle.edzl.specs.Sums.{sumTo, bit}
-use Rattle.edzl.proofs.SumLaws.{bit-monotone}
+use Rattle.laws.specs.Sums.{sumTo, bit}
+use Rattle.laws.proofs.SumLaws.{bit-monotone}
 use Rattle.job.proofs.Order.{precedes-not-self, precedes-trans}
 use Rattle.job.proofs.Next.{Strict, Found, next-runner}
 use Rattle.machine.specs.Machine.{jobAt}

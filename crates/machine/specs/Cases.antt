@@ -11,7 +11,7 @@ use Rattle.tasks.specs.declared.table.Table.{Table}
 use Rattle.tasks.specs.Table.{zeroTask}
 use Rattle.tasks.specs.Written.{task, tableOf}
 use Rattle.judge.specs.Judge.{judged}
-use Rattle.machine.specs.Mask.{mask}
+use Rattle.tasks.specs.Flags.{mask}
 use Rattle.tasks.specs.Outcome.{isDone}
 use Rattle.machine.specs.Calls.{start}
 use Rattle.machine.specs.Play.{Entry, play}

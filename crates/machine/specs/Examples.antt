@@ -8,7 +8,7 @@ use mathlib.Core.Bool.{Bool, true, false, cond, not, _&&_}
 use mathlib.Core.List.{List, [], _∷_, _++_}
 use lib.Dec.{eqb}
 use lib.ListN.{getD, set, replicate, take, drop}
-use Rattle.edzl.specs.Sums.{bit}
+use Rattle.laws.specs.Sums.{bit}
 use Rattle.tasks.specs.declared.task.Task.{Task}
 use Rattle.tasks.specs.declared.outcome.Outcome.{Outcome}
 use Rattle.tasks.specs.declared.outcome.Outcome.the-variants.{Done, Refused}
@@ -18,7 +18,7 @@ use Rattle.tasks.specs.Table.{zeroTask, emptyTable}
 use Rattle.job.specs.Job.{freshJob}
 use Rattle.laws.specs.Examples.{sameNumbers}
 use Rattle.machine.specs.declared.machine.Machine.{Machine}
-use Rattle.machine.specs.Mask.{mask}
+use Rattle.tasks.specs.Flags.{mask}
 use Rattle.machine.specs.Slot.{noReport}
 use Rattle.machine.specs.Sound.{sound}
 use Rattle.machine.specs.Calls.{start}

@@ -10,7 +10,6 @@ pub mod Play
 pub mod BareMachine
 pub mod BareCalls
 pub mod InTime
-pub mod Mask
 pub mod Cases
 pub mod Examples
 pub mod CoreExamples

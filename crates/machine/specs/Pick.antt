@@ -3,7 +3,7 @@ use Prim.Native.Nat.{ℕ, zero, suc, min}
 use mathlib.Core.Bool.{Bool, true, false, not, _&&_}
 use mathlib.Core.List.{List}
 use lib.ListN.{getD, set, replicate}
-use Rattle.edzl.specs.Sums.{sumTo, bit}
+use Rattle.laws.specs.Sums.{sumTo, bit}
 use Rattle.tasks.specs.Limits.{maxTasks}
 use Rattle.job.specs.Precedence.{jobPrecedes}
 use Rattle.job.specs.Search.{Candidates, nextRunner}

@@ -4,7 +4,7 @@ use mathlib.Core.Bool.{Bool, false}
 use mathlib.Core.List.{List}
 use lib.ListN.{getD, replicate}
 use Rattle.laws.specs.Lists.{replaced}
-use Rattle.edzl.specs.Sums.{sumTo, bit}
+use Rattle.laws.specs.Sums.{sumTo, bit}
 use Rattle.tasks.specs.Limits.{maxTasks}
 use Rattle.job.specs.declared.job.Job.{Job}
 use Rattle.job.specs.Slot.{charged, aged, isFinished, isLate, settled}

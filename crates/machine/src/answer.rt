@@ -1,23 +1,21 @@
 // What a call answers.
 use crate::machine::Machine;
+use tasks::flags::Flags;
 use tasks::limits::MAX_TASKS;
 use tasks::outcome::Outcome;
+use tasks::table::PerTask;
 ghost use mathlib.Core.Path.{_≡_};
-ghost use Rattle.machine.specs.Mask.{mask};
 ghost use Rattle.machine.specs.Slot.{noReport};
 ghost use Rattle.machine.specs.Calls.{done, refuse};
-
-// One flag for each task.
-pub type Flags = [bool; MAX_TASKS];
 
 // What a slot says of each task, how many ran, and the core of each runner, 0 for every other task. Every other call, and a refused slot, says nothing
 // of any task.
 pub struct Report {
-    pub ran: [bool; MAX_TASKS],
-    pub finished: [bool; MAX_TASKS],
-    pub late: [bool; MAX_TASKS],
+    pub ran: Flags,
+    pub finished: Flags,
+    pub late: Flags,
     pub runners: u32,
-    pub assigned: [u32; MAX_TASKS],
+    pub assigned: PerTask,
 }
 
 // The machine after the call, whether the call was carried out, and a slot's report.
@@ -66,17 +64,4 @@ impl Answer {
             report,
         }
     }
-}
-
-// The tasks that are named, as the sum of 2 to the power (task number - 1).
-pub fn mask(named: Flags) -> u64
-    ensures { λ r. ⌜ r ≡ mask named ⌝ }
-{
-    let mut sum: u64 = 0;
-    let mut i: usize = MAX_TASKS;
-    while 0 < i {
-        i -= 1;
-        sum = named[i] as u64 + 2 * sum;
-    }
-    sum
 }

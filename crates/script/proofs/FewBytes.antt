@@ -6,19 +6,19 @@ use mathlib.Core.Bool.{Bool, false}
 use mathlib.Core.List.{List, [], _∷_, _++_}
 use lib.ListN.{length, getD, length-append}
 use Rattle.laws.proofs.CaseSplits.{by-test}
-use Rattle.edzl.specs.Sums.{sumTo, bit}
+use Rattle.laws.specs.Sums.{sumTo, bit}
 use Rattle.text.specs.Number.{decimalText}
 use Rattle.text.specs.Output.{furtherNumbers, numbersLine}
 use Rattle.text.proofs.DigitLaws.{text-few}
 use Rattle.tasks.specs.Limits.{maxTasks, maxCores}
 use Rattle.tasks.proofs.OutcomeLaws.{by-outcome}
 use Rattle.machine.specs.Calls.{step}
-use Rattle.machine.specs.Mask.{mask}
+use Rattle.tasks.specs.Flags.{mask}
 use Rattle.machine.specs.declared.machine.Machine.{Machine}
 use Rattle.machine.specs.declared.call.Call.{Call}
 use Rattle.machine.specs.declared.call.Call.the-variants.{Release, Finish, Slot, Join}
 use Rattle.machine.specs.declared.answer.Report.{Report}
-use Rattle.machine.proofs.MaskTurn.{mask-below}
+use Rattle.tasks.proofs.MaskLaws.{mask-below}
 use Rattle.machine.proofs.SmallAnswer.{SmallReport, small-answer}
 use Rattle.script.specs.Output.{runnerCores, reportLine, acceptedLine, outcomeLine, answerLine, answerRoom}
 use Rattle.script.proofs.OutputLaws.{refused-few}

@@ -10,7 +10,7 @@ use lib.ListN.{length, getD, set, take, length-set}
 use lib.Seq.{take-suc-set}
 use Rattle.text.specs.Output.{numbersLine}
 use Rattle.tasks.specs.Limits.{maxTasks}
-use Rattle.machine.specs.Mask.{mask}
+use Rattle.tasks.specs.Flags.{mask}
 use Rattle.machine.specs.declared.answer.Report.{Report}
 use Rattle.script.specs.Output.{runnerCores, reportLine}
 

@@ -12,7 +12,7 @@ use Rattle.machine.specs.declared.call.Call.{Call}
 use Rattle.machine.specs.declared.call.Call.the-variants.{Release, Finish, Slot, Join}
 use Rattle.machine.specs.declared.answer.Answer.{Answer}
 use Rattle.machine.specs.declared.answer.Report.{Report}
-use Rattle.machine.specs.Mask.{mask}
+use Rattle.tasks.specs.Flags.{mask}
 use Rattle.script.specs.Words.{doneWord, badLineWord}
 
 -- "A line that is no call prints `BAD LINE n`", and so does each other line that replay and probe tell by its number

@@ -1,8 +1,8 @@
 // The lines of the output. What puts a line answers how many bytes the array then holds.
 use machine::answer::Answer;
 use machine::answer::Report;
-use machine::answer::mask;
 use machine::call::Call;
+use tasks::flags::mask;
 use tasks::limits::MAX_TASKS;
 use tasks::outcome::Outcome;
 use text::output::put;

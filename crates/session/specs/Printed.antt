@@ -3,7 +3,7 @@ use Prim.Native.Nat.{ℕ, _+_}
 use mathlib.Core.Bool.{cond}
 use mathlib.Core.List.{List, [], _∷_, _++_}
 use Rattle.text.specs.Output.{numbersLine}
-use Rattle.machine.specs.Mask.{mask}
+use Rattle.tasks.specs.Flags.{mask}
 use Rattle.machine.specs.Play.{Entry}
 use Rattle.machine.specs.InTime.{isSlot}
 use Rattle.tasks.specs.Written.{task}

@@ -1,7 +1,7 @@
 // Plays case j of document 01 for six slots, then case k for five, and prints a line for each slot.
 use machine::answer::Report;
-use machine::answer::mask;
 use machine::machine::Machine;
+use tasks::flags::mask;
 use tasks::table::Table;
 use tasks::task::Task;
 use text::output::put_numbers;

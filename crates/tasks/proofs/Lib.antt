@@ -4,3 +4,4 @@ pub mod Small
 pub mod TaskSetLaws
 pub mod OutcomeLaws
 pub mod Numbers
+pub mod MaskLaws

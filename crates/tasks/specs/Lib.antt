@@ -7,3 +7,4 @@ pub mod Outcome
 pub mod TaskSet
 pub mod Written
 pub mod Numbers
+pub mod Flags

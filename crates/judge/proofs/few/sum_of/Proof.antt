@@ -7,9 +7,9 @@ use mathlib.Core.Logic.{⊎-elim}
 use mathlib.Core.List.{List}
 use lib.ListN.{getD}
 use borrow.Author.Needs.{needs}
-use Rattle.edzl.specs.Sums.{sumTo}
-use Rattle.edzl.specs.Window.{others, spare, windowSum}
-use Rattle.edzl.proofs.SumLaws.{others-at, others-off}
+use Rattle.laws.specs.Sums.{sumTo, others}
+use Rattle.edzl.specs.Window.{spare, windowSum}
+use Rattle.laws.proofs.SumLaws.{others-at, others-off}
 use Rattle.judge.specs.Listed.{listed}
 use Rattle.judge.proofs.OwnPart.{partOf, ownPart}
 use Rattle.judge.proofs.few.sum_of.Statement.{statement}

@@ -10,9 +10,9 @@ use lib.ListN.{getD, length, length-set}
 use borrow.Author.Tests.{eq-eqb, ne-eqb}
 use Rattle.laws.specs.Lists.{replaced}
 use Rattle.laws.proofs.Replaced.{replaced-more, replaced-at, replaced-past}
-use Rattle.edzl.specs.Sums.{sumTo, bit}
+use Rattle.laws.specs.Sums.{sumTo, bit}
 use Rattle.edzl.specs.Slack.{newSlack}
-use Rattle.edzl.proofs.SumLaws.{bit-true, bit-false, bit-small, sum-same}
+use Rattle.laws.proofs.SumLaws.{bit-true, bit-false, bit-small, sum-same}
 use Rattle.judge.proofs.OwnPart.{ownPart}
 use Rattle.judge.proofs.rounds.next_slacks.Statement.{statement}
 use Rattle.judge.proofs.rounds.next_slacks.Tie as tie

@@ -8,9 +8,9 @@ use mathlib.Core.Path.{_≡_, sym, ap, _∙_}
 use mathlib.Core.List.{List}
 use mathlib.Core.Logic.{⊎-elim}
 use lib.ListN.{length, getD}
-use Rattle.edzl.specs.Sums.{sumTo}
+use Rattle.laws.specs.Sums.{sumTo}
 use Rattle.edzl.specs.Window.{spare}
-use Rattle.edzl.proofs.SumLaws.{sum-bound}
+use Rattle.laws.proofs.SumLaws.{sum-bound}
 use Rattle.judge.specs.Listed.{listed}
 use Rattle.judge.proofs.OwnPart.{part, sum-with-own}
 use Rattle.judge.proofs.Listed.{well-listed}

@@ -7,9 +7,9 @@ use native.Mathlib.Omega.{arith}
 use mathlib.Core.Path.{_≡_, refl, ap, _∙_}
 use lib.ListN.{length, getD, replicate}
 use Rattle.laws.proofs.Replaced.{replicate-entry}
-use Rattle.edzl.specs.Sums.{sumTo}
+use Rattle.laws.specs.Sums.{sumTo}
 use Rattle.edzl.specs.Window.{noSlack, windowSum}
-use Rattle.edzl.proofs.SumLaws.{sum-bound}
+use Rattle.laws.proofs.SumLaws.{sum-bound}
 use Rattle.edzl.proofs.WindowLaws.{same-task, sum-of-same}
 use Rattle.judge.specs.Listed.{listed}
 use Rattle.judge.proofs.OwnPart.{part, ownPart, window-sum-with-own}

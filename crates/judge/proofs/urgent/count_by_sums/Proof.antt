@@ -9,8 +9,8 @@ use lib.Dec.{leb}
 use lib.ListN.{getD}
 use borrow.Author.Needs.{needs}
 use borrow.Author.Tests.{le-leb, lt-leb}
-use Rattle.edzl.specs.Sums.{sumTo, bit}
-use Rattle.edzl.proofs.SumLaws.{bit-true, bit-false, bit-small}
+use Rattle.laws.specs.Sums.{sumTo, bit}
+use Rattle.laws.proofs.SumLaws.{bit-true, bit-false, bit-small}
 use Rattle.judge.proofs.OwnPart.{needed}
 use Rattle.judge.proofs.urgent.count_by_sums.Statement.{statement}
 use Rattle.judge.proofs.urgent.count_by_sums.Tie as tie

@@ -1,6 +1,6 @@
 -- `Job::charged` meets its contract.
 use native.Mathlib.Nat.{sub-zero}
-use Rattle.edzl.specs.Sums.{bit}
+use Rattle.laws.specs.Sums.{bit}
 use Rattle.job.specs.Slot.{charged}
 use borrow.Author.Needs.{needs}
 use Rattle.job.proofs.job.Job.charged.Statement.{statement}

@@ -6,7 +6,7 @@ use mathlib.Core.Path.{_≡_, refl, sym, ap, _∙_}
 use borrow.Author.Needs.{needs}
 use lib.ListN.{length, take, length-set}
 use lib.Seq.{length-take-le, take-suc-set}
-use Rattle.edzl.proofs.SumLaws.{count-bound}
+use Rattle.laws.proofs.SumLaws.{count-bound}
 use Rattle.tasks.specs.Limits.{maxTasks}
 use Rattle.machine.specs.Machine.{jobAt}
 use Rattle.job.specs.Search.{nextRunner}

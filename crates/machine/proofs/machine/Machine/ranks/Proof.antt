@@ -6,8 +6,8 @@ use mathlib.Core.Path.{_≡_, refl}
 use mathlib.Core.Logic.{⊎-elim}
 use borrow.Author.Needs.{needs}
 use lib.ListN.{replicate}
-use Rattle.edzl.specs.Sums.{sumTo, bit}
-use Rattle.edzl.proofs.SumLaws.{bit-true, bit-false}
+use Rattle.laws.specs.Sums.{sumTo, bit}
+use Rattle.laws.proofs.SumLaws.{bit-true, bit-false}
 use Rattle.tasks.specs.Limits.{maxTasks}
 use Rattle.job.specs.Job.{freshJob}
 use Rattle.machine.specs.Machine.{jobAt}

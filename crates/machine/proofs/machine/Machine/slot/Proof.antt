@@ -6,7 +6,7 @@ use mathlib.Core.Bool.{true}
 use borrow.Author.Needs.{needs}
 use lib.ListN.{length}
 use lib.Seq.{length-take-le}
-use Rattle.edzl.proofs.SumLaws.{count-bound}
+use Rattle.laws.proofs.SumLaws.{count-bound}
 use Rattle.cores.specs.Assign.{assignment}
 use Rattle.laws.proofs.Booleans.{was-true, was-false}
 use Rattle.machine.specs.declared.machine.Machine.{Machine}

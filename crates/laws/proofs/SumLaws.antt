@@ -7,11 +7,10 @@ use mathlib.Core.Bool.{Bool, true, false}
 use native.Mathlib.Nat.{le-refl, not-suc-le-zero}
 use native.Mathlib.Omega.{arith}
 use borrow.Author.Tests.{eq-eqb, ne-eqb}
-use Rattle.edzl.specs.Sums.{sumTo, bit}
-use Rattle.edzl.specs.Window.{others}
+use Rattle.laws.specs.Sums.{sumTo, bit, others}
 use Rattle.laws.proofs.CaseSplits.{by-equal, by-test}
 use Rattle.laws.proofs.Below.{down}
 use Rattle.laws.proofs.Steps.{by-steps}
 
 module _ (f g : ℕ → ℕ) where
   -- Functions that agree below n have the same sum.

@@ -6,9 +6,9 @@ use mathlib.Core.Bool.{false}
 use mir.Val.{boolByte}
 use borrow.Author.Needs.{needs}
 use lib.ListN.{length, getD}
-use Rattle.machine.proofs.MaskTurn.{Masked, masked-none, masked-small, masked-more}
-use Rattle.machine.proofs.answer.mask.Statement.{statement}
-use Rattle.machine.proofs.answer.mask.Tie as tie
+use Rattle.tasks.proofs.MaskLaws.{Masked, masked-none, masked-small, masked-more}
+use Rattle.tasks.proofs.flags.mask.Statement.{statement}
+use Rattle.tasks.proofs.flags.mask.Tie as tie
 
 abbrev Inv-loop : tie.InvT-loop
 Inv-loop named sum₀ i₀ sum i = Masked named sum i

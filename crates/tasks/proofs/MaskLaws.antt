@@ -11,8 +11,8 @@ use lib.Dec.{lit<}
 use lib.ListN.{length, getD, drop, length-drop, drop-of-length-le}
 use lib.Seq.{drop-cons}
 use Rattle.laws.proofs.Booleans.{bool-byte}
-use Rattle.edzl.specs.Sums.{bit}
-use Rattle.machine.specs.Mask.{mask}
+use Rattle.laws.specs.Sums.{bit}
+use Rattle.tasks.specs.Flags.{mask}
 
 pub mask-below : (named : List Bool) → mask named < 2 ^ length named
 unfolding mask bit
