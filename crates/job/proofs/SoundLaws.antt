@@ -1,5 +1,5 @@
 -- What a sound job is: `gap-within`; `closed-numbers`, of a closed one; `open-numbers`, of an open one; `free-closed`, that one without a gap is
--- closed; `was-sound`, that it was sound before change 3 too. The other way round: `closed-sound` and `open-sound`. Jobs that are sound: a fresh one
+-- closed. The other way round: `closed-sound` and `open-sound`. Jobs that are sound: a fresh one
 -- (`fresh-sound`), one that was released (`released-sound`), closed (`ended-sound`) or has passed a slot (`slot-sound`).
 use Prim.Native.Nat.{ℕ, _-_, _≤_}
 use native.Mathlib.Omega.{arith}
@@ -15,7 +15,6 @@ use Rattle.tasks.proofs.Range.{range-of}
 use Rattle.job.specs.Job.{freshJob, releasedJob, closedJob}
 use Rattle.job.specs.Slot.{charged, aged, settled}
 use Rattle.job.specs.Sound.{openSound, closedSound, gapCoversLeft, jobSound}
-use Rattle.job.specs.FormerSound.{formerJobSound}
 use Rattle.job.specs.declared.job.Job.{Job}
 use Rattle.job.proofs.NeedLaws.{NeedRange}
 use Rattle.job.proofs.SlotLaws.{settled-closed, settled-finished, settled-late, settled-open}
@@ -67,13 +66,6 @@ module _ (t : Task) (j : Job) (ok : jobSound t j ≡ true) where
   -- an open job has a slot left, and its gap is no smaller
   pub free-closed : j .gap ≡ 0 → j .«open» ≡ false
   free-closed none = by-test (j .«open») (λ o. absurd (omega (arith, open-numbers o))) (λ c. c)
-
-  pub was-sound : formerJobSound t j ≡ true
-  unfolding formerJobSound jobSound gapCoversLeft
-  was-sound =
-      by-test (j .«open»)
-      (λ o. rw (o, le-leb _ _ gap-within) (and-right (gapCoversLeft j) _ (rw o at (and-right (leb (j .gap) (t .period)) _ ok))))
-      (λ c. rw c (rw c at ok))
 
 module _ (t : Task) (j : Job) (gap : j .gap ≤ t .period) where
   pub closed-sound : j .«open» ≡ false → NoNumbers j → jobSound t j ≡ true

@@ -1,7 +1,6 @@
 pub mod Job
 pub mod Slot
 pub mod Sound
-pub mod FormerSound
 pub mod Precedence
 pub mod Search
 pub mod Rank

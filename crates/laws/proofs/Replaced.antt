@@ -1,4 +1,4 @@
--- The entries of a list that a loop rewrites. Others cite: `replicate-entry`; and of `replaced` `replaced-more`, a turn of such a loop,
+-- The entries of a list that a loop rewrites. Others cite: `replicate-entry` and `set-replicate`; and of `replaced` `replaced-more`, a turn of such a loop,
 -- `length-replaced`, `replaced-same`, `replaced-at`, `replaced-past`, `replaced-short` and `replaced-set`.
 use Prim.Native.Nat.{ℕ, zero, suc, _+_, _≤_, _<_}
 use mathlib.Core.Path.{_≡_, refl, sym, _∙_}
@@ -17,6 +17,15 @@ replicate-entry n i a =
     by-order n i
     (λ h. List·getD-eq-default (replicate n a) a (omega (arith, length-replicate n a)))
     (λ h. getD-replicate n i a a h)
+
+-- A list of one value with that value put at an index, past its end too.
+pub set-replicate : {A : Type 0} (n i : ℕ) (a : A) → set (replicate n a) i a ≡ replicate n a
+set-replicate n i a =
+    ext-getD a (set (replicate n a) i a) (replicate n a) (length-set (replicate n a) i a)
+    (λ k inside.
+    by-equal k i
+    (λ e. rw e (getD-set-same (replicate n a) i a a (omega (arith, length-set (replicate n a) i a)) ∙ sym (replicate-entry n i a)))
+    (λ ne. getD-set-other (replicate n a) i k a a ne))
 
 -- One turn more of a loop that writes entry n.
 pub replaced-more : {A : Type 0} (f : ℕ → A) (l : List A) (n : ℕ) {l' : List A} {v : A} →

@@ -44,8 +44,8 @@ refusal m number place = record { machine = m; outcome = Refused number place; r
 abbrev pub accepted : Machine → Report → Answer
 accepted m report = record { machine = m; outcome = Done; report = report }
 
-abbrev pub slotAnswer : Machine → (ran : List Bool) → (cores : List ℕ) → Answer
-slotAnswer m ran cores = accepted (withAssigned (afterSlot m ran) cores) (slotReport m ran cores)
+abbrev pub slotAnswer : Machine → (ran : List Bool) → (assigned : List ℕ) → Answer
+slotAnswer m ran assigned = accepted (withAssigned (afterSlot m ran) assigned) (slotReport m ran assigned)
 
 -- the machine after an accepted release, and after an accepted finish
 unfoldable pub afterRelease : Machine → (number need : ℕ) → Machine
@@ -70,9 +70,9 @@ pub record FinishTaken (m : Machine) (number : ℕ) : Type 0 where
   pub task : KnownTask m number
   pub was-open : jobAt m (number - 1) .«open» ≡ true
 
-pub record SlotTaken (m : Machine) (k : ℕ) (ran : List Bool) (cores : List ℕ) : Type 0 where
+pub record SlotTaken (m : Machine) (k : ℕ) (ran : List Bool) (assigned : List ℕ) : Type 0 where
   pub legal : LegalSlot m ran
-  pub placed : Placed k ran cores
+  pub placed : Placed k ran assigned
   pub few-cores : k ≤ maxCores
 
 pub record JoinTaken (m : Machine) (t : Task) : Type 0 where
@@ -86,7 +86,7 @@ module _
     (on-refusal : (call : Call) (number place : ℕ) → Refusal m number → P call (refusal m number place))
     (on-release : (number need : ℕ) → ReleaseTaken m number need → P (Release number need) (accepted (afterRelease m number need) noReport))
     (on-finish : (number : ℕ) → FinishTaken m number → P (Finish number) (accepted (afterFinish m number) noReport))
-    (on-slot : (k : ℕ) (ran : List Bool) (cores : List ℕ) → SlotTaken m k ran cores → P (Slot k) (slotAnswer m ran cores))
+    (on-slot : (k : ℕ) (ran : List Bool) (assigned : List ℕ) → SlotTaken m k ran assigned → P (Slot k) (slotAnswer m ran assigned))
     (on-join : (t : Task) → JoinTaken m t → P (Join t) (accepted (withJoined m t) noReport))
   where
     -- by a number that is not 0

@@ -16,9 +16,8 @@ use Rattle.machine.specs.Sound.{jobsSound, sound}
 use Rattle.machine.specs.Calls.{done, refuse, startAfter, start, release, finish, slotCoresInRange, slot, withJoined, joinAfter, join, step}
 use Rattle.machine.specs.Play.{play}
 use Rattle.machine.specs.InTime.{isSlot, acceptedSlot}
-use Rattle.tasks.specs.Flags.{mask}
 use Rattle.tasks.specs.Written.{task, tableWith, tableOf}
-use Rattle.machine.specs.Cases.{slotLines, sameLines, releases, allReleased, session, holds, line, example}
+use Rattle.tasks.specs.Flags.{mask}
 
 unfoldable pub computing : Bool
 unfolding
@@ -31,5 +30,5 @@ unfolding
     jobsSound sound
     done refuse startAfter start release finish slotCoresInRange slot withJoined joinAfter join step play
     isSlot acceptedSlot
-    task tableWith tableOf mask slotLines sameLines releases allReleased session holds line example
+    task tableWith tableOf mask
 computing = true

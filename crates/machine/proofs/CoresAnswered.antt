@@ -6,18 +6,17 @@ use mathlib.Core.Path.{_≡_, refl, sym, _∙_}
 use mathlib.Core.Bool.{true, false, _&&_}
 use mathlib.Core.List.{List, [], _∷_}
 use native.Mathlib.Omega.{arith}
-use lib.ListN.{length, getD, length-set, length-replicate}
-use lib.Seq.{getD-set-other}
-use Rattle.laws.proofs.CaseSplits.{by-order, not-both, clash}
+use lib.ListN.{length, getD, length-replicate}
+use Rattle.laws.proofs.CaseSplits.{by-order, not-both}
 use Rattle.laws.proofs.Replaced.{length-replaced, replaced-at}
 use Rattle.tasks.specs.declared.table.Table.{Table}
 use Rattle.tasks.specs.declared.outcome.Outcome.the-variants.{Done}
 use Rattle.tasks.specs.Limits.{maxTasks}
 use Rattle.tasks.specs.Outcome.{isDone}
-use Rattle.machine.specs.Machine.{coreAt, withJob}
+use Rattle.machine.specs.Machine.{coreAt}
 use Rattle.machine.specs.Slot.{slotReport, afterSlot}
 use Rattle.machine.specs.Cores.{withAssigned}
-use Rattle.machine.specs.Calls.{done, startAfter, start, slot, withJoined, step}
+use Rattle.machine.specs.Calls.{done, startAfter, start, slot, step}
 use Rattle.machine.specs.Play.{machineAfter}
 use Rattle.machine.specs.InTime.{isSlot}
 use Rattle.machine.specs.declared.machine.Machine.{Machine}
@@ -25,7 +24,7 @@ use Rattle.machine.specs.declared.call.Call.{Call}
 use Rattle.machine.specs.declared.call.Call.the-variants.{Slot}
 use Rattle.machine.specs.declared.answer.Report.{Report}
 use Rattle.machine.proofs.SoundLaws.{sound-passes}
-use Rattle.machine.proofs.CallCases.{afterRelease, afterFinish, by-call}
+use Rattle.machine.proofs.CallKinds.{by-kind}
 use Rattle.machine.proofs.SoundKept.{start-outcome}
 
 -- the cores of a report of a slot with k of them; tasks by their indexes
@@ -36,24 +35,22 @@ pub record CoresFit (k : ℕ) (r : Report) : Type 0 where
   pub no-other : (i : ℕ) → getD (r .ran) i false ≡ false → getD (r .assigned) i 0 ≡ 0
 
 each-fit : (m : Machine) (call : Call) (k : ℕ) → call ≡ Slot k → isDone (step m call .outcome) ≡ true → CoresFit k (step m call .report)
-unfolding slotReport isDone
+unfolding slotReport isDone isSlot
 each-fit m =
-    by-call m (λ call answer. (k : ℕ) → call ≡ Slot k → isDone (answer .outcome) ≡ true → CoresFit k (answer .report))
+    by-kind m (λ call answer. (k : ℕ) → call ≡ Slot k → isDone (answer .outcome) ≡ true → CoresFit k (answer .report))
     (λ call number place told k e d. not-both false d refl)
-    (λ number need taken k e d. clash cc)
-    (λ number taken k e d. clash cc)
-    (λ k' ran cores taken k e d.
+    (λ call m' silent k e d. let is : isSlot call ≡ true = rw e in not-both (isSlot call) is (silent .no-slot))
+    (λ k' ran assigned taken k e d.
     let same : k' ≡ k = cc in
     let p = taken .placed in
     record {
       has-core = λ i runs. (p .some i runs, rw (← same) (p .within i));
       none-shared = λ i j ri rj is. p .apart i j is (p .some i ri);
       no-other = λ i idle.
-          by-order 1 (getD cores i 0)
+          by-order 1 (getD assigned i 0)
           (λ some. not-both (getD ran i false) (p .only i some) idle)
           (λ none. omega arith);
     })
-    (λ t taken k e d. clash cc)
 
 pub slot-cores-fit : (m : Machine) (k : ℕ) → isDone (slot m k .outcome) ≡ true → CoresFit k (slot m k .report)
 unfolding step
@@ -61,30 +58,26 @@ slot-cores-fit m k = each-fit m (Slot k) k refl
 
 -- every call keeps the length of the record
 length-kept : (m : Machine) (call : Call) → length (step m call .machine .assigned) ≡ length (m .assigned)
-unfolding afterRelease afterFinish withJob withJoined afterSlot withAssigned
+unfolding afterSlot withAssigned
 length-kept m =
-    by-call m (λ call answer. length (answer .machine .assigned) ≡ length (m .assigned))
+    by-kind m (λ call answer. length (answer .machine .assigned) ≡ length (m .assigned))
     (λ call number place told. refl)
-    (λ number need taken. refl)
-    (λ number taken. refl)
-    (λ k ran cores taken. length-replaced (λ i. getD cores i 0) (m .assigned) (m .table .count))
-    (λ t taken. length-set (m .assigned) (m .table .count) 0)
+    (λ call m' silent. silent .record-long)
+    (λ k ran assigned taken. length-replaced (λ i. getD assigned i 0) (m .assigned) (m .table .count))
 
 each-recorded :
     (m : Machine) → length (m .assigned) ≡ maxTasks → (call : Call) → isSlot call ≡ true → isDone (step m call .outcome) ≡ true
     → (i : ℕ) → i < m .table .count → coreAt (step m call .machine) i ≡ getD (step m call .report .assigned) i 0
 unfolding coreAt slotReport isDone isSlot afterSlot withAssigned
 each-recorded m all =
-    by-call m
+    by-kind m
     (λ call answer. isSlot call ≡ true → isDone (answer .outcome) ≡ true → (i : ℕ) → i < m .table .count
     → coreAt (answer .machine) i ≡ getD (answer .report .assigned) i 0)
     (λ call number place told is d. not-both false d refl)
-    (λ number need taken is. not-both false is refl)
-    (λ number taken is. not-both false is refl)
-    (λ k ran cores taken is d i h.
-    replaced-at (λ j. getD cores j 0) (m .assigned) 0 (m .table .count) i h
+    (λ call m' silent is. not-both (isSlot call) is (silent .no-slot))
+    (λ k ran assigned taken is d i h.
+    replaced-at (λ j. getD assigned j 0) (m .assigned) 0 (m .table .count) i h
     (omega (arith, sound-passes m (taken .legal .is-sound) .count-fits)))
-    (λ t taken is. not-both false is refl)
 
 -- an array of the code has an entry for each task
 pub record-answered :
@@ -96,15 +89,13 @@ record-answered m all k = each-recorded m all (Slot k) refl
 pub record-kept :
     (m : Machine) (call : Call) → (isSlot call && isDone (step m call .outcome)) ≡ false
     → (i : ℕ) → i < m .table .count → coreAt (step m call .machine) i ≡ coreAt m i
-unfolding coreAt isDone isSlot afterRelease afterFinish withJob withJoined
+unfolding isDone isSlot
 record-kept m =
-    by-call m
+    by-kind m
     (λ call answer. (isSlot call && isDone (answer .outcome)) ≡ false → (i : ℕ) → i < m .table .count → coreAt (answer .machine) i ≡ coreAt m i)
     (λ call number place told no i h. refl)
-    (λ number need taken no i h. refl)
-    (λ number taken no i h. refl)
-    (λ k ran cores taken no. not-both true refl no)
-    (λ t taken no i h. getD-set-other (m .assigned) (m .table .count) i 0 0 (λ e. omega arith))
+    (λ call m' silent no. silent .record-stays)
+    (λ k ran assigned taken no. not-both true refl no)
 
 module _ (t : Table) (cores : ℕ) (starts : start t cores .outcome ≡ Done) where
   all-recorded : (calls : List Call) (m : Machine) → length (m .assigned) ≡ maxTasks → length (machineAfter m calls .assigned) ≡ maxTasks

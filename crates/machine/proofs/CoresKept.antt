@@ -35,15 +35,15 @@ fresh-cores n c =
       apart = λ i j same some. absurd (none-there n c i some);
     })
 
-module _ (n k : ℕ) (ran : List Bool) (cores l : List ℕ) (placed : Placed k ran cores) (few : k ≤ maxCores) where
-  placed-apart : Apart cores
+module _ (n k : ℕ) (ran : List Bool) (assigned l : List ℕ) (placed : Placed k ran assigned) (few : k ≤ maxCores) where
+  placed-apart : Apart assigned
   placed-apart = record { within = λ i. omega (arith, placed .within i); apart = placed .apart }
 
-  pub slot-cores : coresSound (take n (replaced n (λ i. getD cores i 0) l)) ≡ true
+  pub slot-cores : coresSound (take n (replaced n (λ i. getD assigned i 0) l)) ≡ true
   slot-cores =
-      let f : ℕ → ℕ = λ i. getD cores i 0 in
+      let f : ℕ → ℕ = λ i. getD assigned i 0 in
       apart-sound _
-      (apart-same cores _ placed-apart
+      (apart-same assigned _ placed-apart
       (λ i some.
       let (low, long) = inside-both n (replaced n f l) i some in
       getD-take n (replaced n f l) i 0 low ∙ replaced-at f l 0 n i low (omega (arith, length-replaced f l n))))

@@ -45,15 +45,15 @@ module _ {m : Machine} {i l b : ℕ} (going : Going m i l b) where
       }
 
   pub going-on :
-      (ran : List Bool) (cores : List ℕ) → LegalSlot m ran → (b' : ℕ) → b - bit (getD ran i false) ≡ b' → 1 ≤ b'
-      → Going (withAssigned (afterSlot m ran) cores) i (l - 1) b'
+      (ran : List Bool) (assigned : List ℕ) → LegalSlot m ran → (b' : ℕ) → b - bit (getD ran i false) ≡ b' → 1 ≤ b'
+      → Going (withAssigned (afterSlot m ran) assigned) i (l - 1) b'
   unfolding afterSlot withAssigned tasksOf firstTasks jobsOf jobAt
-  going-on ran cores legal b' owes some =
+  going-on ran assigned legal b' owes some =
       let in-time = slot-on-time m (going .kept) ran legal i (going .inside) (going .is-open) in
       let open-after = slot-step m ran legal .effect i (going .inside) .stays-open (going .is-open) in
       let still = open-after (omega (arith, going .budget-is)) (omega (arith, going .budget-is)) in
       record {
-        kept = kept-slot m (going .kept) ran cores legal;
+        kept = kept-slot m (going .kept) ran assigned legal;
         inside = going .inside;
         is-open = still .still-open;
         left-is = rw (going .left-is) at (still .now-left);

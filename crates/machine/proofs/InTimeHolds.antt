@@ -15,14 +15,15 @@ use Rattle.tasks.specs.Outcome.{isDone}
 use Rattle.job.specs.Job.{releasedJob}
 use Rattle.judge.specs.Judge.{judged}
 use Rattle.judge.proofs.Admitted.{window-admitted}
-use Rattle.machine.specs.Calls.{start, withJoined, step}
+use Rattle.machine.specs.Calls.{start, step}
 use Rattle.machine.specs.Play.{play}
 use Rattle.machine.specs.InTime.{slotCount, joinedBy, closedBySlot, InTime, Promise}
 use Rattle.machine.specs.declared.machine.Machine.{Machine}
 use Rattle.machine.specs.declared.call.Call.{Call}
 use Rattle.machine.proofs.State.{jobsOf}
 use Rattle.machine.proofs.SlotStep.{LegalSlot, Late, late-is}
-use Rattle.machine.proofs.CallCases.{ReleaseTaken, afterRelease, afterFinish, by-call}
+use Rattle.machine.proofs.CallCases.{ReleaseTaken, afterRelease}
+use Rattle.machine.proofs.CallKinds.{by-kind}
 use Rattle.machine.proofs.JobSteps.{released-job}
 use Rattle.machine.proofs.Kept.{Kept, kept-release, kept-call, slot-on-time, freshMachine, started, kept-fresh}
 use Rattle.machine.proofs.ClosesLaws.{closes-by-slot}
@@ -32,24 +33,22 @@ use Rattle.machine.proofs.Closing.{entryOf, closing}
 
 -- an accepted join's task is added to the table, and nothing else changes it
 table-after : (m : Machine) (call : Call) → step m call .machine .table ≡ cond (isDone (step m call .outcome)) (joinedBy call (m .table)) (m .table)
-unfolding isDone joinedBy afterRelease afterFinish withJob withJoined afterSlot withAssigned
+unfolding isDone joinedBy afterSlot withAssigned
 table-after m =
-    by-call m (λ call answer. answer .machine .table ≡ cond (isDone (answer .outcome)) (joinedBy call (m .table)) (m .table))
+    by-kind m (λ call answer. answer .machine .table ≡ cond (isDone (answer .outcome)) (joinedBy call (m .table)) (m .table))
     (λ call number place told. refl)
-    (λ number need taken. refl)
-    (λ number taken. refl)
-    (λ k ran cores taken. refl)
-    (λ t taken. refl)
+    (λ call m' silent. silent .table-is)
+    (λ k ran assigned taken. refl)
 
 module _ (m : Machine) (kept : Kept m) where
   never-late : (ran : List Bool) → LegalSlot m ran → (i : ℕ) → Late m ran i → ⊥
   never-late ran legal i late =
       late .owes (omega (arith, late .out, slot-on-time m kept ran legal i (late .inside) (late .was-open)))
 
-  slot-in-time : (ran : List Bool) (cores : List ℕ) → LegalSlot m ran → (i : ℕ) → getD (slotReport m ran cores .late) i false ≡ false
-  slot-in-time ran cores legal i =
-      by-test (getD (slotReport m ran cores .late) i false)
-      (λ late. absurd (never-late ran legal i (late-is m ran i (legal .is-sound) cores late)))
+  slot-in-time : (ran : List Bool) (assigned : List ℕ) → LegalSlot m ran → (i : ℕ) → getD (slotReport m ran assigned .late) i false ≡ false
+  slot-in-time ran assigned legal i =
+      by-test (getD (slotReport m ran assigned .late) i false)
+      (λ late. absurd (never-late ran legal i (late-is m ran i (legal .is-sound) assigned late)))
       (λ fine. fine)
 
   -- the job of a release, right after it
@@ -82,19 +81,16 @@ module _ (m : Machine) (kept : Kept m) where
       → EntryInTime (m .table) (entryOf call (step m call)) (play (step m call .machine) calls)
   unfolding isDone taskAt
   entry-in-time calls =
-      by-call m (λ call answer. EntryInTime (m .table) (entryOf call answer) (play (answer .machine) calls))
+      by-kind m (λ call answer. EntryInTime (m .table) (entryOf call answer) (play (answer .machine) calls))
       (λ call number place told. quiet-in-time _ _ _ refl (λ n e c d. clash cc))
-      (λ n e taken.
+      (λ call m' silent.
       record {
         not-late = quiet-report;
         closed = λ number need c d.
-            let same : n ≡ number = cc in
-            let same-need : e ≡ need = cc in
-            rw (← same, ← same-need) (release-closed calls n e taken);
+            let job = silent .opened number need c in
+            rw (job .after) (release-closed calls number need (job .taken));
       })
-      (λ n taken. quiet-in-time _ _ _ refl (λ number need c d. clash cc))
-      (λ k ran cores taken. record { not-late = slot-in-time ran cores (taken .legal); closed = λ number need c d. clash cc })
-      (λ t taken. quiet-in-time _ _ _ refl (λ number need c d. clash cc))
+      (λ k ran assigned taken. record { not-late = slot-in-time ran assigned (taken .legal); closed = λ number need c d. clash cc })
 
 each-entry : (calls : List Call) (m : Machine) → Kept m → EachInTime (m .table) (play m calls)
 unfolding play

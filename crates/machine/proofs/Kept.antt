@@ -82,14 +82,14 @@ module _ (m : Machine) (kept : Kept m) where
       (safe-release _ (sound-fits m (taken .task .is-sound)) _ _ _ (kept .safe) _ (taken .task .inside)
       (release-step m (kept .all-jobs) number need taken))
 
-  pub kept-finish : (number : ℕ) → FinishTaken m number → Kept (afterFinish m number)
+  kept-finish : (number : ℕ) → FinishTaken m number → Kept (afterFinish m number)
   unfolding tasksOf firstTasks afterFinish
   kept-finish number taken =
       kept-job _ _
       (safe-finish _ (sound-fits m (taken .task .is-sound)) _ _ _ (kept .safe) _ (taken .task .inside)
       (finish-step m (kept .all-jobs) number taken))
 
-  pub kept-join : (t : Task) → JoinTaken m t → Kept (withJoined m t)
+  kept-join : (t : Task) → JoinTaken m t → Kept (withJoined m t)
   unfolding withJoined
   kept-join t taken =
       let longer = admission-means (withTask (m .table) t) (m .cores) (taken .admits) in
@@ -99,9 +99,9 @@ module _ (m : Machine) (kept : Kept m) where
         all-jobs = rw length-set (kept .all-jobs);
       }
 
-  pub kept-slot : (ran : List Bool) (cores : List ℕ) → LegalSlot m ran → Kept (withAssigned (afterSlot m ran) cores)
+  pub kept-slot : (ran : List Bool) (assigned : List ℕ) → LegalSlot m ran → Kept (withAssigned (afterSlot m ran) assigned)
   unfolding afterSlot withAssigned jobsOf jobAt
-  kept-slot ran cores legal =
+  kept-slot ran assigned legal =
       record {
         safe = safe-slot _ (sound-fits m (legal .is-sound)) _ _ _ (kept .safe) (kept .admits) _ (slot-step m ran legal);
         admits = kept .admits;
@@ -122,5 +122,5 @@ module _ (m : Machine) (kept : Kept m) where
       (λ call number place told. kept)
       kept-release
       kept-finish
-      (λ k ran cores taken. kept-slot ran cores (taken .legal))
+      (λ k ran assigned taken. kept-slot ran assigned (taken .legal))
       kept-join

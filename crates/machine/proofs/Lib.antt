@@ -9,15 +9,14 @@ pub mod RunnersPlaced
 pub mod SlotStep
 pub mod TaskNumbers
 pub mod CallCases
-pub mod SmallAnswer
 pub mod JobSteps
+pub mod CallKinds
+pub mod SmallAnswer
 pub mod CoresKept
 pub mod SoundKept
 pub mod NeverUnsound
 pub mod OpenGap
-pub mod ReleaseAsBefore
 pub mod CoresAnswered
-pub mod AsBefore
 pub mod Kept
 pub mod ClosesLaws
 pub mod Going
@@ -25,6 +24,5 @@ pub mod Closing
 pub mod InTimeLaws
 pub mod InTimeHolds
 pub mod Computing
-pub mod CasesHold
-pub mod ExamplesHold
+pub mod ClaimsHold
 pub mod SlotTurn

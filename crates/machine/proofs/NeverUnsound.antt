@@ -14,17 +14,15 @@ use Rattle.machine.specs.Calls.{start, step}
 use Rattle.machine.specs.Play.{Entry, play}
 use Rattle.machine.specs.declared.machine.Machine.{Machine}
 use Rattle.machine.specs.declared.call.Call.{Call}
-use Rattle.machine.proofs.CallCases.{by-call}
+use Rattle.machine.proofs.CallKinds.{by-kind}
 use Rattle.machine.proofs.SoundKept.{call-keeps, start-sound}
 
 pub not-unsound : (m : Machine) → sound m ≡ true → (call : Call) → Not0 (step m call .outcome)
 not-unsound m ok =
-    by-call m (λ call answer. Not0 (answer .outcome))
+    by-kind m (λ call answer. Not0 (answer .outcome))
     (λ call number place told. refused-not-0 number place (told .some ok))
-    (λ number need taken. done-not-0)
-    (λ number taken. done-not-0)
-    (λ k ran cores taken. done-not-0)
-    (λ t taken. done-not-0)
+    (λ call m' silent. done-not-0)
+    (λ k ran assigned taken. done-not-0)
 
 each-not-0 :
     (calls : List Call) (m : Machine) → sound m ≡ true

@@ -22,11 +22,11 @@ use Rattle.machine.proofs.PickLaws.{length-pick}
 use Rattle.machine.proofs.RunnerOrder.{listed-picked, listed-distinct, listed-inside, listed-length}
 
 -- who ran in a slot with k cores, and where; a task that is not in the lists did not run and has no core
-pub record Placed (k : ℕ) (ran : List Bool) (cores : List ℕ) : Type 0 where
-  pub some : (i : ℕ) → getD ran i false ≡ true → 1 ≤ getD cores i 0
-  pub within : (i : ℕ) → getD cores i 0 ≤ k
-  pub apart : (i j : ℕ) → getD cores i 0 ≡ getD cores j 0 → 1 ≤ getD cores i 0 → i ≡ j
-  pub only : (i : ℕ) → 1 ≤ getD cores i 0 → getD ran i false ≡ true
+pub record Placed (k : ℕ) (ran : List Bool) (assigned : List ℕ) : Type 0 where
+  pub some : (i : ℕ) → getD ran i false ≡ true → 1 ≤ getD assigned i 0
+  pub within : (i : ℕ) → getD assigned i 0 ≤ k
+  pub apart : (i j : ℕ) → getD assigned i 0 ≡ getD assigned j 0 → 1 ≤ getD assigned i 0 → i ≡ j
+  pub only : (i : ℕ) → 1 ≤ getD assigned i 0 → getD ran i false ≡ true
   pub all-tasks : length ran ≡ maxTasks
   -- no more ran than there are cores
   pub few : (n : ℕ) → sumTo n (λ i. bit (getD ran i false)) ≤ k

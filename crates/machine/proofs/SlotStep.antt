@@ -62,9 +62,9 @@ module _ (m : Machine) (ran : List Bool) (i : ℕ) (ok : sound m ≡ true) where
       (omega (arith, length-replicate maxTasks false, sound-passes m ok .count-fits))
 
   -- No task past the count is reported late.
-  late-past : (cores : List ℕ) → m .table .count ≤ i → getD (slotReport m ran cores .late) i false ≡ false
+  late-past : (assigned : List ℕ) → m .table .count ≤ i → getD (slotReport m ran assigned .late) i false ≡ false
   unfolding slotReport
-  late-past cores h =
+  late-past assigned h =
       replaced-past (λ i. isLate (passed m ran i)) (replicate maxTasks false) false (m .table .count) i h
       ∙ replicate-entry maxTasks i false
 
@@ -84,18 +84,18 @@ module _ (m : Machine) (ran : List Bool) (i : ℕ) (ok : sound m ≡ true) where
         out = sym (passed-left was-open) ∙ eqb-true _ _ (and-right first _ e);
       }
 
-  pub late-is : (cores : List ℕ) → getD (slotReport m ran cores .late) i false ≡ true → Late m ran i
+  pub late-is : (assigned : List ℕ) → getD (slotReport m ran assigned .late) i false ≡ true → Late m ran i
   unfolding slotReport
-  late-is cores e =
+  late-is assigned e =
       by-order (m .table .count) i
-      (λ past. not-both (getD (slotReport m ran cores .late) i false) e (late-past cores past))
+      (λ past. not-both (getD (slotReport m ran assigned .late) i false) e (late-past assigned past))
       (λ h. late-inside h (sym (reported (λ i. isLate (passed m ran i)) h) ∙ e))
 
   pub finished-is :
-      (cores : List ℕ) → i < m .table .count → jobsOf m .isOpen i ≡ true → jobsOf m .budget i - bit (getD ran i false) ≡ 0
-      → getD (slotReport m ran cores .finished) i false ≡ true
+      (assigned : List ℕ) → i < m .table .count → jobsOf m .isOpen i ≡ true → jobsOf m .budget i - bit (getD ran i false) ≡ 0
+      → getD (slotReport m ran assigned .finished) i false ≡ true
   unfolding slotReport jobsOf isFinished passed aged charged
-  finished-is cores h o e = reported (λ i. isFinished (passed m ran i)) h ∙ rw (o, eq-eqb _ _ e)
+  finished-is assigned h o e = reported (λ i. isFinished (passed m ran i)) h ∙ rw (o, eq-eqb _ _ e)
 
   module _ (h : i < m .table .count) where
     -- What step 4 closes has no job after the slot.

@@ -20,28 +20,28 @@ use Rattle.job.specs.declared.job.Job.{Job}
 use Rattle.machine.specs.declared.machine.Machine.{Machine}
 use Rattle.machine.specs.declared.answer.Answer.{Answer}
 
--- the machine m and two lists of the report after the first i tasks of m₀ have passed the slot in which `ran` says who ran and `cores` where
-pub record Turned (m₀ : Machine) (ran : List Bool) (cores : List ℕ) (m : Machine) (finished late : List Bool) (i : ℕ) : Type 0 where
+-- the machine m and two lists of the report after the first i tasks of m₀ have passed the slot in which `ran` says who ran and `assigned` where
+pub record Turned (m₀ : Machine) (ran : List Bool) (assigned : List ℕ) (m : Machine) (finished late : List Bool) (i : ℕ) : Type 0 where
   pub same-table : m .table ≡ m₀ .table
   pub same-cores : m .cores ≡ m₀ .cores
   pub jobs-are : m .jobs ≡ replaced i (λ k. settled (passed m₀ ran k)) (m₀ .jobs)
-  pub assigned-are : m .assigned ≡ replaced i (λ k. getD cores k 0) (m₀ .assigned)
+  pub assigned-are : m .assigned ≡ replaced i (λ k. getD assigned k 0) (m₀ .assigned)
   pub finished-are : finished ≡ replaced i (λ k. isFinished (passed m₀ ran k)) (replicate maxTasks false)
   pub late-are : late ≡ replaced i (λ k. isLate (passed m₀ ran k)) (replicate maxTasks false)
 
-pub turned-none : (m : Machine) (ran : List Bool) (cores : List ℕ) → Turned m ran cores m (replicate maxTasks false) (replicate maxTasks false) 0
+pub turned-none : (m : Machine) (ran : List Bool) (assigned : List ℕ) → Turned m ran assigned m (replicate maxTasks false) (replicate maxTasks false) 0
 unfolding replaced
-turned-none m ran cores =
+turned-none m ran assigned =
     record { same-table = refl; same-cores = refl; jobs-are = refl; assigned-are = refl; finished-are = refl; late-are = refl }
 
 module _
     (m₀ : Machine)
     (ran : List Bool)
-    (cores : List ℕ)
+    (assigned : List ℕ)
     (m : Machine)
     (finished late : List Bool)
     (i : ℕ)
-    (t : Turned m₀ ran cores m finished late i)
+    (t : Turned m₀ ran assigned m finished late i)
   where
     -- the job at i has not passed yet
     pub job-before : getD (m .jobs) i freshJob ≡ jobAt m₀ i
@@ -51,8 +51,8 @@ module _
     -- one task more
     pub turned-more :
         (j : Job) → j ≡ aged (charged (getD ran i false) (getD (m .jobs) i freshJob))
-        → Turned m₀ ran cores
-        (record { table = m .table; cores = m .cores; jobs = set (m .jobs) i (settled j); assigned = set (m .assigned) i (getD cores i 0) })
+        → Turned m₀ ran assigned
+        (record { table = m .table; cores = m .cores; jobs = set (m .jobs) i (settled j); assigned = set (m .assigned) i (getD assigned i 0) })
         (set finished i (isFinished j)) (set late i (isLate j)) (i + 1)
     unfolding replaced passed
     turned-more j e =
@@ -68,16 +68,16 @@ module _
 
 -- after every task
 pub turned-all :
-    (m₀ : Machine) (ran : List Bool) (cores : List ℕ) (m : Machine) (finished late : List Bool) (n : ℕ)
-    → Turned m₀ ran cores m finished late (m₀ .table .count)
+    (m₀ : Machine) (ran : List Bool) (assigned : List ℕ) (m : Machine) (finished late : List Bool) (n : ℕ)
+    → Turned m₀ ran assigned m finished late (m₀ .table .count)
     → n ≡ ranCount m₀ ran
     → _≡_ {A = Answer}
-    (record { machine = m; outcome = Done; report = record { ran = ran; finished = finished; late = late; runners = n; assigned = cores } })
-    (record { machine = withAssigned (afterSlot m₀ ran) cores; outcome = Done; report = slotReport m₀ ran cores })
+    (record { machine = m; outcome = Done; report = record { ran = ran; finished = finished; late = late; runners = n; assigned = assigned } })
+    (record { machine = withAssigned (afterSlot m₀ ran) assigned; outcome = Done; report = slotReport m₀ ran assigned })
 unfolding afterSlot withAssigned slotReport
-turned-all m₀ ran cores m finished late n t q =
+turned-all m₀ ran assigned m finished late n t q =
     λ i. record {
       machine = record { table = t .same-table i; cores = t .same-cores i; jobs = t .jobs-are i; assigned = t .assigned-are i };
       outcome = Done;
-      report = record { ran = ran; finished = t .finished-are i; late = t .late-are i; runners = q i; assigned = cores };
+      report = record { ran = ran; finished = t .finished-are i; late = t .late-are i; runners = q i; assigned = assigned };
     }

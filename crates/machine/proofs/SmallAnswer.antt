@@ -17,7 +17,7 @@ use Rattle.machine.specs.declared.machine.Machine.{Machine}
 use Rattle.machine.specs.declared.call.Call.{Call}
 use Rattle.machine.specs.declared.answer.Answer.{Answer}
 use Rattle.machine.specs.declared.answer.Report.{Report}
-use Rattle.machine.proofs.CallCases.{by-call}
+use Rattle.machine.proofs.CallKinds.{by-kind}
 
 pub record SmallReport (r : Report) : Type 0 where
   pub all-ran : length (r .ran) ≡ maxTasks
@@ -47,12 +47,11 @@ none-small =
 pub small-answer : (m : Machine) (call : Call) → SmallAnswer (step m call)
 unfolding slotReport ranCount
 small-answer m =
-    by-call m (λ call answer. SmallAnswer answer)
+    by-kind m (λ call answer. SmallAnswer answer)
     (λ call number place told.
     record { number = λ n p e. let same : number ≡ n = cc in omega (arith, told .small); report = none-small })
-    (λ number need taken. record { number = λ n p e. clash cc; report = none-small })
-    (λ number taken. record { number = λ n p e. clash cc; report = none-small })
-    (λ k ran cores taken.
+    (λ call m' silent. record { number = λ n p e. clash cc; report = none-small })
+    (λ k ran assigned taken.
     let placed = taken .placed in
     record {
       number = λ n p e. clash cc;
@@ -66,4 +65,3 @@ small-answer m =
             small-cores = λ i. omega (arith, placed .within i, taken .few-cores);
           };
     })
-    (λ t taken. record { number = λ n p e. clash cc; report = none-small })

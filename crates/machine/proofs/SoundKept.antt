@@ -83,13 +83,13 @@ module _ (m : Machine) (ok : sound m ≡ true) where
   unfolding passed
   slot-job ran i h = rw (after-slot-job m ran i h) (slot-sound (taskAt m i) (jobAt m i) (getD ran i false) (sound-job m ok i h))
 
-  slot-keeps : (k : ℕ) (ran : List Bool) (cores : List ℕ) → SlotTaken m k ran cores → SoundOn (m .cores) (withAssigned (afterSlot m ran) cores)
+  slot-keeps : (k : ℕ) (ran : List Bool) (assigned : List ℕ) → SlotTaken m k ran assigned → SoundOn (m .cores) (withAssigned (afterSlot m ran) assigned)
   unfolding afterSlot withAssigned taskAt jobAt
-  slot-keeps k ran cores taken =
+  slot-keeps k ran assigned taken =
       record {
         is-sound =
-            make-sound (withAssigned (afterSlot m ran) cores) (sound-checks m ok) (slot-job ran)
-            (slot-cores (m .table .count) k ran cores (m .assigned) (taken .placed) (taken .few-cores));
+            make-sound (withAssigned (afterSlot m ran) assigned) (sound-checks m ok) (slot-job ran)
+            (slot-cores (m .table .count) k ran assigned (m .assigned) (taken .placed) (taken .few-cores));
         cores-are = refl;
       }
 

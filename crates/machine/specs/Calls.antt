@@ -71,10 +71,10 @@ slotCoresInRange m k = leb (m .cores) k && leb k maxCores
 unfoldable pub slot : Machine → (k : ℕ) → Answer
 slot m k =
     let ran = runners m k in
-    let cores = slotAssignment m k in
+    let assigned = slotAssignment m k in
     cond (not (sound m)) (refuse m unsoundMachine)
     (cond (not (slotCoresInRange m k)) (refuse m slotCoresOutOfRange)
-    (record { machine = withAssigned (afterSlot m ran) cores; outcome = Done; report = slotReport m ran cores }))
+    (record { machine = withAssigned (afterSlot m ran) assigned; outcome = Done; report = slotReport m ran assigned }))
 
 -- "added at the end of the table, closed, gap 0", with no core
 unfoldable pub withJoined : Machine → Task → Machine

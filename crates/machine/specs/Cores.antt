@@ -19,11 +19,11 @@ slotAssignment m k = assignment (m .assigned) k (runnerOrder m (runnerCount m k)
 
 -- "The machine shall record the core of each task that ran in the last slot, and 0, no core, for every other": the machine with these cores recorded for
 -- the tasks of its table
-unfoldable pub withAssigned : Machine → (cores : List ℕ) → Machine
-withAssigned m cores =
+unfoldable pub withAssigned : Machine → (assigned : List ℕ) → Machine
+withAssigned m assigned =
     record {
       table = m .table;
       cores = m .cores;
       jobs = m .jobs;
-      assigned = replaced (m .table .count) (λ i. getD cores i 0) (m .assigned);
+      assigned = replaced (m .table .count) (λ i. getD assigned i 0) (m .assigned);
     }

@@ -5,12 +5,6 @@ pub mod Cores
 pub mod Ranks
 pub mod Sound
 pub mod Calls
-pub mod FormerRelease
 pub mod Play
-pub mod BareMachine
-pub mod BareCalls
 pub mod InTime
-pub mod Cases
-pub mod Examples
-pub mod CoreExamples
-pub mod NeedExamples
+pub mod Claims

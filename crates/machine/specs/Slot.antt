@@ -33,14 +33,14 @@ noReport =
 
 -- "The answer tells for each task whether it ran, finished, was late, and gives the number that ran."; document 02, change 4: "The slot answer gains the
 -- core of each runner."
-unfoldable pub slotReport : Machine → (ran : List Bool) → (cores : List ℕ) → Report
-slotReport m ran cores =
+unfoldable pub slotReport : Machine → (ran : List Bool) → (assigned : List ℕ) → Report
+slotReport m ran assigned =
     record {
       ran = ran;
       finished = replaced (m .table .count) (λ i. isFinished (passed m ran i)) (replicate maxTasks false);
       late = replaced (m .table .count) (λ i. isLate (passed m ran i)) (replicate maxTasks false);
       runners = ranCount m ran;
-      assigned = cores;
+      assigned = assigned;
     }
 
 -- the machine after steps 2 to 4

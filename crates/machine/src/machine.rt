@@ -1,6 +1,7 @@
 // The machine, and the numbers of its tasks.
 use job::job::Job;
 use tasks::limits::MAX_TASKS;
+use tasks::table::PerTask;
 use tasks::table::Table;
 ghost use Prim.Native.Nat.{_<_};
 ghost use mathlib.Core.Path.{_≡_};
@@ -13,7 +14,7 @@ pub struct Machine {
     pub table: Table,
     pub cores: u32,
     pub jobs: [Job; MAX_TASKS],
-    pub assigned: [u32; MAX_TASKS],
+    pub assigned: PerTask,
 }
 
 impl Machine {

@@ -3,11 +3,13 @@ use crate::answer::Answer;
 use crate::answer::Report;
 use crate::machine::Machine;
 use cores::assign::assign;
+use tasks::flags::Flags;
 use tasks::limits::MAX_CORES;
 use tasks::limits::MAX_TASKS;
 use tasks::outcome::Outcome;
 use tasks::refusals::SLOT_CORES_OUT_OF_RANGE;
 use tasks::refusals::UNSOUND_MACHINE;
+use tasks::table::PerTask;
 ghost use Prim.Native.Nat.{_≤_};
 ghost use mathlib.Core.Path.{_≡_};
 ghost use Rattle.tasks.specs.declared.outcome.Outcome.the-variants.{Done};
@@ -18,7 +20,7 @@ ghost use Rattle.machine.specs.Calls.{slotCoresInRange, slot};
 
 impl Machine {
     // Steps 2 to 4 of a slot in which these tasks ran, so many in number, on these cores, which the machine records.
-    fn passed(mut self, ran: [bool; MAX_TASKS], runners: u32, assigned: [u32; MAX_TASKS]) -> Answer
+    fn after_running(mut self, ran: Flags, runners: u32, assigned: PerTask) -> Answer
         requires { ⌜ (self .table .count ≤ maxTasks) × (runners ≡ ranCount self ran) ⌝ }
         ensures { λ r. ⌜ r ≡ record { machine = withAssigned (afterSlot self ran) assigned; outcome = Done; report = slotReport self ran assigned } ⌝ }
     {
@@ -70,11 +72,11 @@ impl Machine {
         }
         let tasks = self.ranks();
         let ranks = tasks.ranks;
-        let runners = self.runner_count(available, tasks.found);
+        let runners = self.runner_count(available, tasks.open_count);
         let mut order = [0usize; MAX_TASKS];
         let ran = self.pick(ranks, runners, &mut order);
         let recorded = self.assigned;
         let assigned = assign(recorded, &order[..runners as usize], available);
-        self.passed(ran, runners, assigned)
+        self.after_running(ran, runners, assigned)
     }
 }

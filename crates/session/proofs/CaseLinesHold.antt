@@ -6,11 +6,11 @@ use lib.ListN.{length}
 use Rattle.text.specs.Number.{digitsOf, decimalText}
 use Rattle.text.specs.Output.{furtherNumbers, numbersLine}
 use Rattle.machine.proofs.Computing.{computing}
-use Rattle.session.specs.Printed.{slotLine, slotLinesFrom, caseJ, caseK, printed}
+use Rattle.session.specs.Printed.{slotLine, slotLinesFrom, releases, session, caseJ, caseK, printed}
 use Rattle.session.specs.CaseLines.{caseLines}
 
 pub case-lines-hold : printed ≡ caseLines
-unfolding computing digitsOf decimalText furtherNumbers numbersLine slotLine slotLinesFrom caseJ caseK printed caseLines
+unfolding computing digitsOf decimalText furtherNumbers numbersLine slotLine slotLinesFrom releases session caseJ caseK printed caseLines
 case-lines-hold = refl
 
 -- eleven lines of eight bytes

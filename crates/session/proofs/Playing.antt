@@ -14,12 +14,11 @@ use Rattle.machine.specs.Calls.{start, step, release, slot}
 use Rattle.machine.specs.Play.{play}
 use Rattle.machine.specs.InTime.{isSlot}
 use Rattle.tasks.specs.Written.{tableOf}
-use Rattle.machine.specs.Cases.{releases, allReleased, session}
 use Rattle.machine.specs.declared.machine.Machine.{Machine}
 use Rattle.machine.specs.declared.answer.Answer.{Answer}
 use Rattle.machine.specs.declared.call.Call.{Call}
 use Rattle.machine.specs.declared.call.Call.the-variants.{Release, Slot}
-use Rattle.session.specs.Printed.{slotLine, slotLinesFrom}
+use Rattle.session.specs.Printed.{slotLine, slotLinesFrom, releases, session}
 
 -- m is the machine after the releases of the tasks 1 to n of a table on m₀: whatever calls follow, the lines are the same
 abbrev pub Released : Machine → Table → ℕ → Machine → Type 0
@@ -40,7 +39,7 @@ released-more m₀ m t n h calls =
 pub session-lines :
     (tasks : List Task) (cores slots : ℕ) (m : Machine) (a : Answer) (t : Table) → Released (a .machine) t (length tasks) m → a ≡ start t cores
     → t ≡ tableOf tasks → slotLinesFrom 1 (session tasks cores slots) ≡ slotLinesFrom 1 (play m (replicate slots (Slot cores)))
-unfolding session allReleased
+unfolding session
 session-lines tasks cores slots m a t h e f =
     let q : start (tableOf tasks) cores .machine ≡ a .machine = rw (e, f) in
     rw q (rw f at (h (replicate slots (Slot cores))))

@@ -13,10 +13,9 @@ ghost use Rattle.text.specs.Output.{Put, Holds};
 ghost use Rattle.tasks.specs.Limits.{maxTasks};
 ghost use Rattle.machine.specs.Play.{play as log};
 ghost use Rattle.tasks.specs.Written.{task};
-ghost use Rattle.machine.specs.Cases.{releases};
 ghost use Rattle.machine.specs.declared.call.Call.{Call};
 ghost use Rattle.machine.specs.declared.call.Call.the-variants.{Slot};
-ghost use Rattle.session.specs.Printed.{slotLine, slotLinesFrom, caseJ, caseK, printed, room};
+ghost use Rattle.session.specs.Printed.{slotLine, slotLinesFrom, releases, caseJ, caseK, printed, room};
 
 // The cores of the machine of each case, and of its slots.
 const CASE_J_CORES: u32 = 2;

@@ -21,15 +21,15 @@ use Rattle.machine.proofs.machine.Machine.pick.Statement.{statement}
 use Rattle.machine.proofs.machine.Machine.pick.Tie as tie
 
 abbrev Inv-loop : tie.InvT-loop
-Inv-loop self wanted order₀ waiting₀ ran₀ found₀ order waiting ran found =
-    (found ≤ wanted)
-    × (ran ≡ pick self found)
-    × (waiting ≡ ranks self (pick self found))
+Inv-loop self wanted order₀ waiting₀ ran₀ picked₀ order waiting ran picked =
+    (picked ≤ wanted)
+    × (ran ≡ pick self picked)
+    × (waiting ≡ ranks self (pick self picked))
     × (length order ≡ maxTasks)
-    × (take found order ≡ runnerOrder self found)
+    × (take picked order ≡ runnerOrder self picked)
 
 abbrev μ-loop : tie.MeasureT-loop
-μ-loop self wanted order₀ waiting₀ ran₀ found₀ order waiting ran found = wanted - found
+μ-loop self wanted order₀ waiting₀ ran₀ picked₀ order waiting ran picked = wanted - picked
 
 fits : (c : tie.Start Inv-loop μ-loop) → c .args .self .table .count ≤ maxTasks
 fits c = sound-passes (c .args .self) (c .pre .0) .count-fits
@@ -38,13 +38,13 @@ fits c = sound-passes (c .args .self) (c .pre .0) .count-fits
 has-all : (c : tie.At-loop Inv-loop μ-loop) → c .before .before .args .self .table .count ≤ length (c .loop .waiting)
 has-all c =
     let m = c .before .before .args .self in
-    omega (arith, fits (c .before .before), ap length (c .loop .inv .2), length-ranks m (pick m (c .loop .found)))
+    omega (arith, fits (c .before .before), ap length (c .loop .inv .2), length-ranks m (pick m (c .loop .picked)))
 
 -- the next runner of the picks so far
-runner : (c : tie.In-loop Inv-loop μ-loop) → let m = c .before .before .before .args .self in Found (candidates m (pick m (c .before .loop .found)))
+runner : (c : tie.In-loop Inv-loop μ-loop) → let m = c .before .before .before .args .self in Found (candidates m (pick m (c .before .loop .picked)))
 runner c =
     let l = c .before in
-    next-in (l .before .before .args .self) (fits (l .before .before)) (l .loop .found) (omega arith)
+    next-in (l .before .before .args .self) (fits (l .before .before)) (l .loop .picked) (omega arith)
 
 -- the number found is that of the next runner
 is-next : (c : tie.After-next-runner Inv-loop μ-loop) → c .next-runner .result ≡ suc (runner (c .before .before) .index)
@@ -52,7 +52,7 @@ is-next c =
     let l = c .before .before .before in
     let m = l .before .before .args .self in
     c .next-runner .ensures
-    ∙ ranked-runner _ m (pick m (l .loop .found)) (l .before .before .pre .0) (ap (take (m .table .count)) (l .loop .inv .2))
+    ∙ ranked-runner _ m (pick m (l .loop .picked)) (l .before .before .pre .0) (ap (take (m .table .count)) (l .loop .inv .2))
     ∙ runner (c .before .before) .number-is
 
 -- as an index
@@ -80,7 +80,7 @@ array-write-ran : tie.Need-array-write-ran Inv-loop μ-loop
 array-write-ran c = omega (arith, inside c, fits (c .before .before .before .before .before))
 
 -- no more are picked than the table has tasks
-few : (c : tie.After-next-runner Inv-loop μ-loop) → c .before .before .before .loop .found < 32
+few : (c : tie.After-next-runner Inv-loop μ-loop) → c .before .before .before .loop .picked < 32
 unfolding openCount
 few c =
     let l = c .before .before .before in
@@ -106,7 +106,7 @@ unfolding pick withPicked candidates runnerOrder
 loop-again c =
     let l = c .before .before .before in
     let m = l .before .before .args .self in
-    let k = l .loop .found in
+    let k = l .loop .picked in
     let next = runner (c .before .before) in
     let listed : c .next-runner .result - 1 ≡ nextRunner (candidates m (pick m k)) - 1 = rw (next .number-is, index-of (next .index)) (at-index c) in (
       omega arith,
@@ -129,7 +129,7 @@ same-length c =
 returns : tie.Need-returns Inv-loop μ-loop
 returns c =
     let l = c .before in
-    let e : l .loop .found ≡ l .before .before .args .wanted = omega arith in
+    let e : l .loop .picked ≡ l .before .before .args .wanted = omega arith in
     (l .loop .inv .1 ∙ rw e, rw e at (l .loop .inv .4))
 
 pub pick-spec : {M : Type 1} → statement M

@@ -20,14 +20,14 @@ use Rattle.machine.proofs.machine.Machine.ranks.Statement.{statement}
 use Rattle.machine.proofs.machine.Machine.ranks.Tie as tie
 
 abbrev Inv-loop : tie.InvT-loop
-Inv-loop self count ranks₀ found₀ i₀ ranks found i =
+Inv-loop self count ranks₀ open-count₀ i₀ ranks open-count i =
     (i ≤ count)
     × (ranks ≡ replaced i (rankAt self (pick self 0)) (replicate maxTasks never))
-    × (found ≡ sumTo i (λ k. bit (jobAt self k .«open»)))
-    × (found ≤ i)
+    × (open-count ≡ sumTo i (λ k. bit (jobAt self k .«open»)))
+    × (open-count ≤ i)
 
 abbrev μ-loop : tie.MeasureT-loop
-μ-loop self count ranks₀ found₀ i₀ ranks found i = count - i
+μ-loop self count ranks₀ open-count₀ i₀ ranks open-count i = count - i
 
 loop-holds : tie.Need-loop-holds Inv-loop μ-loop
 unfolding sumTo replaced

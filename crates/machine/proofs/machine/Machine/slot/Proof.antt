@@ -55,7 +55,7 @@ ranks-requires : tie.Need-ranks-requires
 ranks-requires c κs = fits c
 
 runner-count-requires : tie.Need-runner-count-requires
-runner-count-requires c κs = ap (λ (r : Ranks). r .found) (c .before .ranks .ensures)
+runner-count-requires c κs = ap (λ (r : Ranks). r .open_count) (c .before .ranks .ensures)
 
 pick-requires : tie.Need-pick-requires
 pick-requires c κs =
@@ -98,8 +98,8 @@ cores-are c =
     c .assign .ensures
     ∙ ap (assignment (a .self .assigned) (a .available)) (p .pick .ensures .1 ∙ ap (runnerOrder (a .self)) (p .before .before .runner-count .ensures))
 
-passed-requires : tie.Need-passed-requires
-passed-requires c κs =
+after-running-requires : tie.Need-after-running-requires
+after-running-requires c κs =
     let p = c .before .before .before .before in
     (fits (past p), p .before .before .runner-count .ensures ∙ rw (ran-are p) (sym (runners-number _ _ (fits (past p)))))
 
@@ -109,7 +109,7 @@ returns-3 c =
     let a = c .before in
     let p = a .before .before .before .before in
     let e = past p in
-    rw (is-sound (e .before .before), in-range e, ← ran-are p, ← cores-are a) (c .passed .ensures)
+    rw (is-sound (e .before .before), in-range e, ← ran-are p, ← cores-are a) (c .after-running .ensures)
 
 pub slot-spec : {M : Type 1} → statement M
 slot-spec =
@@ -129,5 +129,5 @@ slot-spec =
     array-share-prefix-order
     slice-aggregate-assign
     (λ c κs. search needs)
-    passed-requires
+    after-running-requires
     returns-3)

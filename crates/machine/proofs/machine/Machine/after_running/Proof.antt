@@ -1,4 +1,4 @@
--- `Machine::passed` meets its contract. The invariant: the tasks so far have passed the slot.
+-- `Machine::after_running` meets its contract. The invariant: the tasks so far have passed the slot.
 use Prim.Native.Nat.{_-_, _≤_}
 use native.Mathlib.Omega.{arith}
 use mathlib.Core.Path.{_≡_, ap, _∙_}
@@ -8,8 +8,8 @@ use borrow.Author.Needs.{needs}
 use Rattle.job.specs.Job.{freshJob}
 use Rattle.job.specs.Slot.{charged, aged}
 use Rattle.machine.proofs.SlotTurn.{Turned, turned-none, turned-more, turned-all}
-use Rattle.machine.proofs.machine.Machine.passed.Statement.{statement}
-use Rattle.machine.proofs.machine.Machine.passed.Tie as tie
+use Rattle.machine.proofs.machine.Machine.after_running.Statement.{statement}
+use Rattle.machine.proofs.machine.Machine.after_running.Tie as tie
 
 abbrev Inv-loop : tie.InvT-loop
 Inv-loop runners self₀ ran assigned count finished₀ late₀ i₀ self finished late i = (i ≤ count) × Turned self₀ ran assigned self finished late i
@@ -38,8 +38,8 @@ returns c =
     let e : c .before .loop .i ≡ s .args .t1 .table .count = omega arith in
     turned-all _ _ _ _ _ _ _ (rw e at (c .before .loop .inv .1)) (s .pre .1)
 
-pub passed-spec : {M : Type 1} → statement M
-passed-spec =
+pub after-running-spec : {M : Type 1} → statement M
+after-running-spec =
     tie.close
     (tie.spec
     Inv-loop

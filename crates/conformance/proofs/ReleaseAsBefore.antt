@@ -5,20 +5,23 @@ use native.Mathlib.Omega.{arith}
 use mathlib.Core.Path.{_≡_, refl, _∙_}
 use mathlib.Core.Bool.{true}
 use lib.Dec.{ltb}
-use borrow.Author.Tests.{ltb-false}
+use borrow.Author.Tests.{ltb-false, le-leb, eq-eqb}
 use Rattle.laws.proofs.CaseSplits.{by-test}
+use Rattle.tasks.specs.declared.task.Task.{Task}
 use Rattle.tasks.specs.Outcome.{isDone}
-use Rattle.job.specs.FormerSound.{formerJobSound}
 use Rattle.job.specs.Job.{releasedJob}
 use Rattle.job.proofs.NeedLaws.{whole-in-range}
-use Rattle.job.proofs.SoundLaws.{was-sound}
+use Rattle.job.specs.declared.job.Job.{Job}
+use Rattle.job.specs.Sound.{openSound, closedSound, jobSound}
+use Rattle.job.proofs.SoundLaws.{gap-within, closed-numbers, open-numbers}
 use Rattle.machine.specs.Machine.{taskAt, jobAt, inTable}
 use Rattle.machine.specs.Sound.{sound}
 use Rattle.machine.specs.Calls.{release}
-use Rattle.machine.specs.FormerRelease.{wholeJob, wholeRelease, formerJobsSound, formerSound, formerRelease}
+use Rattle.conformance.specs.FormerSound.{formerJobSound}
+use Rattle.conformance.specs.FormerRelease.{wholeJob, wholeRelease, formerJobsSound, formerSound, formerRelease}
 use Rattle.machine.specs.declared.machine.Machine.{Machine}
 use Rattle.machine.proofs.SoundLaws.{sound-checks, sound-passes, sound-job, sound-free}
 use Rattle.machine.proofs.TaskNumbers.{known-task}
 
 pub whole-as-before : (m : Machine) (number : ℕ) → release m number (taskAt m (number - 1) .budget) ≡ wholeRelease m number
 unfolding release wholeRelease releasedJob wholeJob taskAt
@@ -31,6 +34,25 @@ whole-as-before m number =
     rw (ok, known, whole-in-range (taskAt m (number - 1)) fits))
     (λ unknown. rw (ok, unknown)))
     (λ unsound. rw unsound)
+
+-- a sound job was sound before change 3 too
+was-sound : (t : Task) (j : Job) → jobSound t j ≡ true → formerJobSound t j ≡ true
+unfolding formerJobSound openSound closedSound
+was-sound t j ok =
+    by-test (j .«open»)
+    (λ o.
+    let n = open-numbers t j ok o in
+    rw (
+      le-leb _ _ (gap-within t j ok),
+      o,
+      le-leb _ _ (n .left-some),
+      le-leb _ _ (n .left-fits),
+      le-leb _ _ (n .budget-some),
+      le-leb _ _ (n .budget-fits),
+    ))
+    (λ c.
+    let none = closed-numbers t j ok c in
+    rw (le-leb _ _ (gap-within t j ok), c, eq-eqb _ _ (none .left-none), eq-eqb _ _ (none .budget-none)))
 
 all-were : (m : Machine) (n : ℕ) → ((i : ℕ) → i < n → formerJobSound (taskAt m i) (jobAt m i) ≡ true) → formerJobsSound m n ≡ true
 unfolding formerJobsSound

@@ -1,4 +1,4 @@
--- Examples of jobs that know their need (document 02, change 5), as entries of a list of computed tests. `allTrue` of crate cores is the test; the theorem
+-- Examples of jobs that know their need (document 02, change 5), as entries of a list of computed tests. `allTrue` of crate laws is the test; the theorem
 -- stands in proofs/ExamplesHold.antt.
 use Prim.Native.Nat.{ℕ}
 use mathlib.Core.Bool.{Bool, true, not, _&&_}
@@ -8,16 +8,16 @@ use lib.ListN.{drop, replicate}
 use Rattle.tasks.specs.declared.task.Task.{Task}
 use Rattle.job.specs.declared.job.Job.{Job}
 use Rattle.job.specs.Job.{isUrgent}
 use Rattle.machine.specs.Machine.{jobAt}
 use Rattle.machine.specs.Calls.{start}
-use Rattle.machine.specs.FormerRelease.{wholeRelease}
 use Rattle.machine.specs.Play.{machineAfter}
 use Rattle.machine.specs.InTime.{closedBySlot}
 use Rattle.tasks.specs.Written.{task, tableOf}
-use Rattle.machine.specs.Cases.{verdictIs, holds, line}
-use Rattle.machine.specs.Examples.{answers, runIs, ignoredIs, emptyRefusals}
 use Rattle.machine.specs.declared.call.Call.{Call}
 use Rattle.machine.specs.declared.call.Call.the-variants.{Release, Finish, Slot, Join}
+use Rattle.conformance.specs.FormerRelease.{wholeRelease}
+use Rattle.conformance.specs.Runs.{line, answers, runIs, ignoredIs, emptyRefusals}
+use Rattle.conformance.specs.Cases.{verdictIs, holds}
 
 -- a task that is due soon, and one that must run in every slot to its deadline if it needs its whole budget
 unfoldable pub soonAndLong : List Task

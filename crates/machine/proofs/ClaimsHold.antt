@@ -1,6 +1,6 @@
--- The examples all hold (`examples-hold`, `core-examples-hold`, `need-examples-hold`, `claims-hold`). Demand 3's claim is not empty: it speaks of a release,
--- with a need below the budget, whose job runs and finishes (`not-empty`); and it is false of a log with a late job (`late-refuted`) and of one with a job
--- that does not finish when it has run what its release named (`unclosed-refuted`).
+-- What the claim of demand 3 says. The logs made by hand all come to what `claims` says of them (`claims-hold`). The claim is not empty: it speaks of a release,
+-- with a need below the budget, whose job runs and finishes (`not-empty`); and it is false of a log with a late job (`late-refuted`) and of one with a
+-- job that does not finish when it has run what its release named (`unclosed-refuted`).
 use Prim.Native.Nat.{ℕ, _-_, _≤_, _<_}
 use mathlib.Core.Path.{_≡_, refl}
 use mathlib.Core.Bool.{Bool, true, false}
@@ -10,51 +10,40 @@ use native.Mathlib.Omega.{arith}
 use Rattle.tasks.specs.declared.table.Table.{Table}
 use Rattle.tasks.specs.declared.outcome.Outcome.the-variants.{Done}
 use Rattle.tasks.specs.Table.{zeroTask}
+use Rattle.tasks.specs.Outcome.{isDone}
+use Rattle.tasks.specs.Written.{task, tableOf}
+use Rattle.laws.specs.Examples.{allTrue}
 use Rattle.laws.proofs.CaseSplits.{not-both}
 use Rattle.judge.specs.Judge.{judged}
 use Rattle.judge.specs.SlackJudge.{admission}
 use Rattle.judge.specs.SlackExamples.{fourTasks}
-use Rattle.tasks.specs.Outcome.{isDone}
 use Rattle.machine.specs.Slot.{noReport}
-use Rattle.job.specs.FormerSound.{formerJobSound}
 use Rattle.machine.specs.Calls.{start}
-use Rattle.machine.specs.FormerRelease.{wholeJob, wholeRelease, formerJobsSound, formerSound, formerRelease}
-use Rattle.machine.specs.Play.{Entry, play, machineAfter}
+use Rattle.machine.specs.Play.{Entry, play}
 use Rattle.machine.specs.InTime.{isFinishOf, acceptedFinish, saysRan, saysFinished, slotCount, upToSlot, ranWhole, anyFinish, tableAfter, joinedBy, closedBySlot, InTime, Promise}
-use Rattle.tasks.specs.Written.{task, tableOf}
-use Rattle.machine.specs.Cases.{session, example}
-use Rattle.machine.specs.Examples.{answers, refusalBefore, refusals, runnerCounts, runIs, ignoredIs, many, pressed, pressedCalls, ignoredSlot, atPlace0, emptyRefusals, withoutTasks, madeByHand, allKinds, whole, overtaken, ignored, examples, slotOf, idle, ran, ranLast, accepted, refused, closedIn, claims}
-use Rattle.laws.specs.Examples.{sameNumbers, allTrue}
-use Rattle.machine.specs.Machine.{coreAt}
-use Rattle.machine.specs.CoreExamples.{coreLines, sameLists, coresAre, three, everySlot, recording, recordAfter, elseNoCores, coreExamples}
-use Rattle.machine.specs.NeedExamples.{soonAndLong, twice, heldBack, heldBackCalls, jobAfter, opensWith, needExamples}
+use Rattle.machine.specs.Claims.{slotOf, idle, ran, ranLast, acceptedCall, refusedCall, closedIn, threeTasks, claims}
 use Rattle.machine.specs.declared.call.Call.{Call}
 use Rattle.machine.specs.declared.call.Call.the-variants.{Release, Slot, Join}
 use Rattle.machine.proofs.Computing.{computing}
 use Rattle.machine.proofs.InTimeHolds.{promise}
 
-pub examples-hold : allTrue examples ≡ true
-unfolding computing answers refusalBefore refusals runnerCounts sameNumbers runIs ignoredIs many pressed pressedCalls ignoredSlot atPlace0 emptyRefusals withoutTasks madeByHand allKinds whole overtaken ignored wholeJob formerJobSound formerJobsSound formerSound formerRelease examples allTrue
-examples-hold = refl
-
-pub core-examples-hold : allTrue coreExamples ≡ true
-unfolding computing coreAt machineAfter answers refusalBefore refusals sameNumbers allTrue coreLines sameLists coresAre three everySlot recording recordAfter elseNoCores coreExamples
-core-examples-hold = refl
-
-pub need-examples-hold : allTrue needExamples ≡ true
-unfolding computing machineAfter answers refusalBefore refusals sameNumbers runIs ignoredIs atPlace0 emptyRefusals saysRan saysFinished upToSlot ranWhole acceptedFinish isFinishOf anyFinish closedBySlot soonAndLong twice jobAfter opensWith heldBack heldBackCalls wholeJob wholeRelease needExamples allTrue
-need-examples-hold = refl
-
 pub claims-hold : allTrue claims ≡ true
-unfolding computing answers pressed pressedCalls saysRan saysFinished slotCount upToSlot ranWhole acceptedFinish isFinishOf anyFinish closedBySlot tableAfter joinedBy slotOf idle ran ranLast accepted refused closedIn claims allTrue
+unfolding computing saysRan saysFinished slotCount upToSlot ranWhole acceptedFinish isFinishOf anyFinish closedBySlot tableAfter joinedBy slotOf idle ran ranLast acceptedCall refusedCall closedIn threeTasks claims allTrue
 claims-hold = refl
 
--- the log of case k, in whose last slot both tasks are late; the claim fails of task 2
-pub late-refuted : InTime (tableOf whole) (session whole 1 5) → ⊥
-unfolding computing whole
-late-refuted claim =
-    let log = session whole 1 5 in
-    not-both true refl (claim .none-late (take 6 log) [] (getD log 6 (record { call = Slot 1; outcome = Done; report = noReport })) refl refl 1)
+-- a slot of a log made by hand in which task 2 is late
+pub secondLate : Entry
+secondLate =
+    record {
+      call = Slot 1;
+      outcome = Done;
+      report = record { ran = []; finished = []; late = false ∷ true ∷ []; runners = 0; assigned = [] };
+    }
+
+-- a log made by hand with that slot; the claim fails of task 2
+pub late-refuted : InTime threeTasks (acceptedCall (Release 2 1) ∷ secondLate ∷ []) → ⊥
+unfolding computing secondLate
+late-refuted claim = not-both true refl (claim .none-late (acceptedCall (Release 2 1) ∷ []) [] secondLate refl refl 1)
 
 -- a slot of a log made by hand in which task 4 runs, and what it says of its finishing
 pub fourthRan : (finished : Bool) → Entry
@@ -75,14 +64,14 @@ fourthRan finished =
 -- a log made by hand: task 4, which joined, is released with a need of 2, below its budget, and in the three slots to its deadline it runs three times and
 -- finishes with the third; the claim fails of that release
 pub unclosed-refuted :
-    (InTime (tableOf example)
-    (accepted (Release 1 1) ∷ accepted (Join (task 9 3 3)) ∷ accepted (Release 4 2) ∷ fourthRan false ∷ fourthRan false ∷ fourthRan true ∷ []))
+    (InTime threeTasks
+    (acceptedCall (Release 1 1) ∷ acceptedCall (Join (task 9 3 3)) ∷ acceptedCall (Release 4 2) ∷ fourthRan false ∷ fourthRan false ∷ fourthRan true ∷ []))
     → ⊥
-unfolding computing accepted fourthRan saysRan saysFinished slotCount upToSlot ranWhole acceptedFinish isFinishOf anyFinish closedBySlot tableAfter joinedBy
+unfolding computing acceptedCall threeTasks fourthRan saysRan saysFinished slotCount upToSlot ranWhole acceptedFinish isFinishOf anyFinish closedBySlot tableAfter joinedBy
 unclosed-refuted claim =
     not-both false
-    (claim .all-closed (accepted (Release 1 1) ∷ accepted (Join (task 9 3 3)) ∷ []) (fourthRan false ∷ fourthRan false ∷ fourthRan true ∷ [])
-    (accepted (Release 4 2)) 4 2 refl refl refl (omega arith))
+    (claim .all-closed (acceptedCall (Release 1 1) ∷ acceptedCall (Join (task 9 3 3)) ∷ []) (fourthRan false ∷ fourthRan false ∷ fourthRan true ∷ [])
+    (acceptedCall (Release 4 2)) 4 2 refl refl refl (omega arith))
     refl
 
 -- an admitted table and calls whose log has what demand 3 speaks of
@@ -116,9 +105,9 @@ exampleCalls : List Call
 exampleCalls = Release 1 1 ∷ Release 2 1 ∷ Release 3 1 ∷ Release 4 2 ∷ replicate 8 (Slot 2)
 
 pub not-empty : NotEmpty
-unfolding computing answers fourTasks exampleCalls saysRan saysFinished slotCount tableAfter joinedBy
+unfolding computing fourTasks exampleCalls saysRan saysFinished slotCount tableAfter joinedBy
 not-empty =
-    let entries = answers fourTasks 2 exampleCalls in
+    let entries = play (start (tableOf fourTasks) 2 .machine) exampleCalls in
     record {
       table = tableOf fourTasks;
       cores = 2;

@@ -1,5 +1,5 @@
 -- The release as it was before document 02's change 5, for the theorem `whole-as-before`, and as it was before change 3, with soundness as it was, for the
--- theorem `release-as-before` (crates/machine/proofs/ReleaseAsBefore.antt). Beside these theorems only an example of each cites them.
+-- theorem `release-as-before` (proofs/ReleaseAsBefore.antt). Beside these theorems only an example of each cites them.
 use Prim.Native.Nat.{ℕ, zero, suc, _-_}
 use mathlib.Core.Bool.{Bool, true, cond, not, _&&_}
 use lib.Dec.{ltb}
@@ -8,12 +8,12 @@ use Rattle.tasks.specs.Check.{checked}
 use Rattle.tasks.specs.Outcome.{isDone}
 use Rattle.tasks.specs.declared.task.Task.{Task}
 use Rattle.job.specs.declared.job.Job.{Job}
-use Rattle.job.specs.FormerSound.{formerJobSound}
+use Rattle.conformance.specs.FormerSound.{formerJobSound}
 use Rattle.machine.specs.Machine.{taskAt, jobAt, withJob, inTable}
 use Rattle.machine.specs.Sound.{sound}
 use Rattle.machine.specs.Calls.{done, refuse}
 use Rattle.machine.specs.declared.machine.Machine.{Machine}
 use Rattle.machine.specs.declared.answer.Answer.{Answer}
 
 -- document 01: "it becomes open, left = D_i, budget = C_i, gap = T_i. Every release is charged the whole C_i."
 unfoldable pub wholeJob : Task → Job

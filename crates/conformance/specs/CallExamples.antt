@@ -1,64 +1,26 @@
--- Examples beside the cases of document 01, as entries of lists of computed tests; above 150 lines because it is these lists alone, with the words
--- that they are written in. `examples` has runs of the machine: joins, a task that turns urgent, refused calls, slots with
--- other cores than the machine's (document 02, change 1), jobs of equal deadlines (change 2), and machines made by hand (change 3). `claims` has logs
--- made by hand, and what the claim of demand 3 says of them. `allTrue` of crate laws is the test; the theorems
--- stand in proofs/ExamplesHold.antt.
-use Prim.Native.Nat.{ℕ, _+_}
-use mathlib.Core.Bool.{Bool, true, false, cond, not, _&&_}
+-- Examples beside the cases of document 01, as entries of a list of computed tests: joins, a task that turns urgent, refused calls, slots with
+-- other cores than the machine's (document 02, change 1), jobs of equal deadlines (change 2), and machines made by hand (change 3). `allTrue` of crate laws
+-- is the test; the theorem stands in proofs/ExamplesHold.antt. Above 150 lines because it is the list alone, with the tables that it speaks of.
+use Prim.Native.Nat.{ℕ}
+use mathlib.Core.Bool.{Bool, true, false, not}
 use mathlib.Core.List.{List, [], _∷_, _++_}
 use lib.Dec.{eqb}
-use lib.ListN.{getD, set, replicate, take, drop}
-use Rattle.laws.specs.Sums.{bit}
-use Rattle.tasks.specs.declared.task.Task.{Task}
-use Rattle.tasks.specs.declared.outcome.Outcome.{Outcome}
-use Rattle.tasks.specs.declared.outcome.Outcome.the-variants.{Done, Refused}
-use Rattle.tasks.specs.Refusals.{unsoundMachine}
-use Rattle.tasks.specs.Limits.{maxTasks}
-use Rattle.tasks.specs.Table.{zeroTask, emptyTable}
-use Rattle.job.specs.Job.{freshJob}
+use lib.ListN.{set, replicate, take, drop}
 use Rattle.laws.specs.Examples.{sameNumbers}
-use Rattle.machine.specs.declared.machine.Machine.{Machine}
-use Rattle.tasks.specs.Flags.{mask}
-use Rattle.machine.specs.Slot.{noReport}
-use Rattle.machine.specs.Sound.{sound}
-use Rattle.machine.specs.Calls.{start}
-use Rattle.machine.specs.FormerRelease.{formerRelease}
-use Rattle.machine.specs.Play.{Entry, play}
-use Rattle.machine.specs.InTime.{acceptedSlot, slotCount, closedBySlot, tableAfter}
+use Rattle.tasks.specs.declared.task.Task.{Task}
+use Rattle.tasks.specs.Limits.{maxTasks}
+use Rattle.tasks.specs.Table.{emptyTable}
 use Rattle.tasks.specs.Written.{task, tableOf}
-use Rattle.machine.specs.Cases.{Line, verdictIs, sessionIs, slotLines, sameLines, allReleased, holds, line, example}
+use Rattle.job.specs.Job.{freshJob}
+use Rattle.machine.specs.declared.machine.Machine.{Machine}
+use Rattle.machine.specs.Sound.{sound}
+use Rattle.machine.specs.Play.{play}
+use Rattle.machine.specs.InTime.{slotCount, closedBySlot}
 use Rattle.machine.specs.declared.call.Call.{Call}
 use Rattle.machine.specs.declared.call.Call.the-variants.{Release, Finish, Slot, Join}
-
--- the answers to a list of calls, from a fresh machine
-unfoldable pub answers : List Task → (cores : ℕ) → List Call → List Entry
-answers tasks cores calls = play (start (tableOf tasks) cores .machine) calls
-
--- the refusal number of an outcome, if it is one, in front of others
-unfoldable pub refusalBefore : Outcome → List ℕ → List ℕ
-refusalBefore Done numbers = numbers
-refusalBefore (Refused number place) numbers = number ∷ numbers
-
--- the refusal numbers of the refused calls
-unfoldable pub refusals : List Entry → List ℕ
-refusals [] = []
-refusals (e ∷ log) = refusalBefore (e .outcome) (refusals log)
-
--- the number of runners that each accepted slot gives
-unfoldable pub runnerCounts : List Entry → List ℕ
-runnerCounts [] = []
-runnerCounts (e ∷ log) = cond (acceptedSlot e) (e .report .runners ∷ runnerCounts log) (runnerCounts log)
-
--- the calls are refused with these numbers, the others carried out, and the accepted slots report these lines
-unfoldable pub runIs : List Task → (cores : ℕ) → List Call → (numbers : List ℕ) → List Line → Bool
-runIs tasks cores calls numbers lines =
-    let log = answers tasks cores calls in sameNumbers (refusals log) numbers && sameLines (slotLines log) lines
-
--- the call is refused with this number, and the slots report the same lines with it and without it
-unfoldable pub ignoredIs :
-    List Task → (cores : ℕ) → (before : List Call) → Call → (number : ℕ) → (after : List Call) → List Line → Bool
-ignoredIs tasks cores before call number after lines =
-    runIs tasks cores (before ++ call ∷ after) (number ∷ []) lines && runIs tasks cores (before ++ after) [] lines
+use Rattle.conformance.specs.FormerRelease.{formerRelease}
+use Rattle.conformance.specs.Runs.{line, answers, allReleased, refusalBefore, refusals, runnerCounts, runIs, ignoredIs, emptyRefusals}
+use Rattle.conformance.specs.Cases.{verdictIs, sessionIs, holds, example}
 
 -- 32 tasks: the last 12 have the earlier deadline
 unfoldable pub many : List Task
@@ -75,18 +37,6 @@ pressedCalls = Release 1 2 ∷ Slot 1 ∷ Slot 1 ∷ Slot 2 ∷ Slot 2 ∷ []
 -- a slot with k cores between its two slots is refused by 14 and changes nothing: a job that aged in it would be late
 unfoldable pub ignoredSlot : (k : ℕ) → Bool
 ignoredSlot k = ignoredIs pressed 2 (Release 1 2 ∷ Slot 2 ∷ []) (Slot k) 14 (Slot 2 ∷ []) (line 1 0 0 ∷ line 1 1 0 ∷ [])
-
--- the outcome is a refusal at place 0
-unfoldable pub atPlace0 : Outcome → Bool
-atPlace0 Done = false
-atPlace0 (Refused number place) = eqb place 0
-
--- the calls are refused, each at place 0 with a report that "names no task and gives 0 runners"
-unfoldable pub emptyRefusals : List Entry → Bool
-emptyRefusals [] = true
-emptyRefusals (e ∷ log) =
-    let r = e .report in
-    atPlace0 (e .outcome) && eqb (mask (r .ran) + mask (r .finished) + mask (r .late) + r .runners) 0 && emptyRefusals log
 
 -- a machine made by hand that is unsound: it has 2 cores and no task
 unfoldable pub withoutTasks : Machine
@@ -122,8 +72,8 @@ ignored call number =
     (line 3 1 0 ∷ line 6 2 0 ∷ line 4 0 0 ∷ line 4 0 0 ∷ line 4 0 0 ∷ line 4 0 0 ∷ line 4 4 0 ∷ [])
 
 -- runs of the machine, and which machines are sound
-unfoldable pub examples : List Bool
-examples =
+unfoldable pub callExamples : List Bool
+callExamples =
     -- 32 tasks on 16 cores, by the window test: COUNT 12, admitted; on 11 cores the same COUNT, refused
     holds (verdictIs many 16 12 true) ∷
     holds (verdictIs many 11 12 false) ∷
@@ -174,6 +124,9 @@ examples =
     runIs pressed 2 pressedCalls (14 ∷ 14 ∷ []) (line 1 0 0 ∷ line 1 1 0 ∷ []) ∷
     -- and they tell nothing but their number
     emptyRefusals (take 2 (drop 1 (answers pressed 2 pressedCalls))) ∷
+    -- of the calls after the release the claim of demand 3 counts two slots, by the second of which the job is closed
+    eqb (slotCount (drop 1 (answers pressed 2 pressedCalls))) 2 ∷
+    closedBySlot 1 2 2 (drop 1 (answers pressed 2 pressedCalls)) ∷
     -- more open tasks than the machine's cores and fewer than the slot's: all run
     runIs example 2 (allReleased example ++ Slot 4 ∷ []) [] (line 7 1 0 ∷ []) ∷
     sameNumbers (runnerCounts (answers example 2 (allReleased example ++ Slot 4 ∷ []))) (3 ∷ []) ∷
@@ -218,78 +171,4 @@ examples =
     sameNumbers (refusalBefore (formerRelease (madeByHand true 4 2 0) 1 .outcome) []) (10 ∷ []) ∷
     -- after a gap of four slots a release is accepted, and not after three
     sameNumbers (refusals (play (madeByHand true 4 2 4) (replicate 3 (Slot 1) ++ Release 1 3 ∷ Slot 1 ∷ Release 1 3 ∷ []))) (9 ∷ []) ∷
-    []
-
--- a slot of a log made by hand, by what it says of task 1: whether it ran, and whether it finished; of the others it says nothing
-unfoldable pub slotOf : (ran finished : Bool) → Entry
-slotOf ran finished =
-    record {
-      call = Slot 1;
-      outcome = Done;
-      report = record { ran = ran ∷ []; finished = finished ∷ []; late = []; runners = bit ran; assigned = [] };
-    }
-
--- a slot in which task 1 did not run
-unfoldable pub idle : Entry
-idle = slotOf false false
-
--- a slot in which it ran and did not finish
-unfoldable pub ran : Entry
-ran = slotOf true false
-
--- a slot in which it ran and finished
-unfoldable pub ranLast : Entry
-ranLast = slotOf true true
-
--- an accepted call that is no slot
-unfoldable pub accepted : Call → Entry
-accepted call = record { call = call; outcome = Done; report = noReport }
-
--- a refused call
-unfoldable pub refused : Call → Entry
-refused call = record { call = call; outcome = Refused unsoundMachine 0; report = noReport }
-
--- whether the claim takes a job of task 1 for closed in a log after its release
-unfoldable pub closedIn : (need deadline : ℕ) → List Entry → Bool
-closedIn need deadline log = closedBySlot 1 need deadline log
-
--- logs made by hand, and what the claim of demand 3 says of them
-unfoldable pub claims : List Bool
-claims =
-    -- by the second slot, and not by the third; a refused slot is not counted
-    closedIn 1 2 (idle ∷ ranLast ∷ []) ∷
-    not (closedIn 1 2 (idle ∷ idle ∷ ranLast ∷ [])) ∷
-    closedIn 1 2 (idle ∷ refused (Slot 1) ∷ ranLast ∷ []) ∷
-    eqb (slotCount (idle ∷ refused (Slot 1) ∷ accepted (Finish 1) ∷ ranLast ∷ [])) 2 ∷
-    -- the whole need, and the last of its slots says that the task finished
-    closedIn 2 3 (ran ∷ idle ∷ ranLast ∷ []) ∷
-    not (closedIn 2 3 (idle ∷ idle ∷ ranLast ∷ [])) ∷
-    not (closedIn 2 3 (ran ∷ ran ∷ idle ∷ [])) ∷
-    not (closedIn 2 3 (ran ∷ ran ∷ ranLast ∷ [])) ∷
-    not (closedIn 3 3 (ran ∷ ranLast ∷ idle ∷ [])) ∷
-    closedIn 4 4 (ran ∷ ran ∷ ran ∷ ranLast ∷ []) ∷
-    closedIn 2 2 (ranLast ∷ ranLast ∷ []) ∷
-    not (closedIn 1 1 (slotOf false true ∷ [])) ∷
-    -- what a refused slot says does not count
-    closedIn 1 1 (record { call = Slot 1; outcome = Refused 14 0; report = ran .report } ∷ ranLast ∷ []) ∷
-    -- no other call counts as a slot or as a finish
-    closedIn 1 2 (accepted (Release 2 1) ∷ idle ∷ ranLast ∷ []) ∷
-    not (closedIn 1 1 (accepted (Release 1 1) ∷ idle ∷ [])) ∷
-    not (closedIn 1 1 (accepted (Join (task 9 1 2)) ∷ idle ∷ [])) ∷
-    -- an accepted finish of the task, before the deadline
-    closedIn 2 2 (idle ∷ accepted (Finish 1) ∷ idle ∷ []) ∷
-    not (closedIn 2 2 (refused (Finish 1) ∷ idle ∷ idle ∷ [])) ∷
-    not (closedIn 2 2 (accepted (Finish 2) ∷ idle ∷ idle ∷ [])) ∷
-    not (closedIn 2 2 (idle ∷ idle ∷ accepted (Finish 1) ∷ [])) ∷
-    -- of task 2 these slots say nothing
-    not (closedBySlot 2 1 2 (idle ∷ ranLast ∷ [])) ∷
-    closedBySlot 2 1 1 (accepted (Finish 2) ∷ idle ∷ []) ∷
-    not (closedBySlot 2 1 1 (accepted (Finish 1) ∷ idle ∷ [])) ∷
-    -- an accepted join adds its task, a refused one does not
-    eqb (tableAfter (tableOf example) (accepted (Join (task 9 1 2)) ∷ []) .count) 4 ∷
-    eqb (tableAfter (tableOf example) (refused (Join (task 9 1 2)) ∷ []) .count) 3 ∷
-    eqb (getD (tableAfter (tableOf example) (accepted (Release 1 1) ∷ accepted (Join (task 9 1 2)) ∷ []) .tasks) 3 zeroTask .deadline) 2 ∷
-    -- of the calls after a release, with two refused slots among them: two slots, by the second of which the job is closed
-    eqb (slotCount (drop 1 (answers pressed 2 pressedCalls))) 2 ∷
-    closedIn 2 2 (drop 1 (answers pressed 2 pressedCalls)) ∷
     []

@@ -10,17 +10,16 @@ use Rattle.tasks.specs.Limits.{maxTasks}
 use Rattle.tasks.specs.Table.{emptyTable}
 use Rattle.job.specs.Job.{freshJob}
 use Rattle.laws.specs.Examples.{sameNumbers}
 use Rattle.machine.specs.Machine.{coreAt}
 use Rattle.machine.specs.Sound.{sound}
 use Rattle.machine.specs.Calls.{start}
 use Rattle.machine.specs.Play.{Entry, play, machineAfter}
 use Rattle.machine.specs.InTime.{acceptedSlot}
 use Rattle.tasks.specs.Written.{task, tableOf}
-use Rattle.machine.specs.Cases.{allReleased}
-use Rattle.machine.specs.Examples.{answers, refusals}
 use Rattle.machine.specs.declared.machine.Machine.{Machine}
 use Rattle.machine.specs.declared.call.Call.{Call}
 use Rattle.machine.specs.declared.call.Call.the-variants.{Release, Finish, Slot, Join}
+use Rattle.conformance.specs.Runs.{answers, allReleased, refusals}
 
 -- the cores that the accepted slots of a log answer, each for the first n tasks
 unfoldable pub coreLines : (n : ℕ) → List Entry → List (List ℕ)

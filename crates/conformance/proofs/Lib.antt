@@ -1,0 +1,6 @@
+pub mod ReleaseAsBefore
+pub mod SlotAsBefore
+pub mod Computing
+pub mod CasesHold
+pub mod ExamplesHold
+pub mod ManyTasksHold

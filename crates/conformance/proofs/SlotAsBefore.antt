@@ -1,0 +1,127 @@
+-- On every sound machine a slot without its cores is the slot of before on the machine without cores (`slot-as-before`), and no other call depends on the
+-- recorded cores (`release-alike`, `finish-alike`, `join-alike`). So two sound machines that differ in their cores alone answer alike
+-- (`cores-play-no-part`), and over every list of calls from a start the answers without their cores are those of before (`list-as-before`).
+use Prim.Native.Nat.{ℕ, zero, suc, _-_}
+use mathlib.Core.Path.{_≡_, refl, sym, ap, _∙_}
+use mathlib.Core.Bool.{Bool, true, false, cond, not}
+use mathlib.Core.List.{List, [], _∷_}
+use lib.Dec.{leb, ltb}
+use lib.ListN.{set, replicate}
+use Rattle.laws.proofs.Replaced.{set-replicate}
+use Rattle.tasks.specs.declared.task.Task.{Task}
+use Rattle.tasks.specs.declared.table.Table.{Table}
+use Rattle.tasks.specs.declared.outcome.Outcome.{Outcome}
+use Rattle.tasks.specs.declared.outcome.Outcome.the-variants.{Done, Refused}
+use Rattle.tasks.specs.Limits.{maxTasks}
+use Rattle.tasks.specs.Refusals.{unsoundMachine}
+use Rattle.tasks.specs.Task.{inRange}
+use Rattle.job.specs.Job.{needInRange}
+use Rattle.machine.specs.Machine.{taskAt, jobAt, withJob, inTable}
+use Rattle.machine.specs.Pick.{openCount, waiting, precedes, candidates, pick, runnerCount, runners}
+use Rattle.machine.specs.Slot.{passed, ranCount, noReport, slotReport, afterSlot}
+use Rattle.machine.specs.Cores.{withAssigned}
+use Rattle.machine.specs.Sound.{sound}
+use Rattle.machine.specs.Calls.{done, refuse, startAfter, start, release, finish, slotCoresInRange, slot, withJoined, joinAfter, join, step}
+use Rattle.machine.specs.Play.{play}
+use Rattle.machine.specs.declared.machine.Machine.{Machine}
+use Rattle.machine.specs.declared.call.Call.{Call}
+use Rattle.machine.specs.declared.call.Call.the-variants.{Release, Finish, Slot, Join}
+use Rattle.machine.specs.declared.answer.Answer.{Answer}
+use Rattle.machine.proofs.SoundLaws.{make-sound, sound-checks, sound-job}
+use Rattle.machine.proofs.CoresKept.{fresh-cores}
+use Rattle.machine.proofs.SoundKept.{call-keeps, start-sound, start-outcome}
+use Rattle.conformance.specs.FormerSlot.{noCores, machineWithoutCores, reportWithoutCores, withoutCores, logWithoutCores, formerSlot, formerStep, formerPlay}
+
+-- two answers to a test, each without its cores
+past : (t : Bool) (a a' b b' : Answer) → withoutCores a ≡ b → withoutCores a' ≡ b' → withoutCores (cond t a a') ≡ cond t b b'
+past true a a' b b' e e' = e
+past false a a' b b' e e' = e'
+
+module _ (m : Machine) where
+  same-pick : (n : ℕ) → pick (machineWithoutCores m) n ≡ pick m n
+  unfolding pick candidates waiting precedes jobAt machineWithoutCores
+  same-pick zero = refl
+  same-pick (suc n) = rw (same-pick n)
+
+  same-runners : (k : ℕ) → runners (machineWithoutCores m) k ≡ runners m k
+  unfolding runners runnerCount openCount jobAt machineWithoutCores
+  same-runners k = same-pick (runnerCount m k)
+
+  module _ (ok : sound m ≡ true) where
+    pub sound-without : sound (machineWithoutCores m) ≡ true
+    unfolding machineWithoutCores noCores taskAt jobAt
+    sound-without = make-sound (machineWithoutCores m) (sound-checks m ok) (sound-job m ok) (fresh-cores (m .table .count) maxTasks)
+
+    refused : (number : ℕ) → withoutCores (refuse m number) ≡ refuse (machineWithoutCores m) number
+    unfolding withoutCores reportWithoutCores noCores refuse noReport
+    refused number = refl
+
+    -- past the test that refuses an unsound machine, which neither is
+    past-0 : (a b : Answer) → withoutCores a ≡ b
+        → withoutCores (cond (not (sound m)) (refuse m unsoundMachine) a)
+        ≡ cond (not (sound (machineWithoutCores m))) (refuse (machineWithoutCores m) unsoundMachine) b
+    past-0 a b e = rw (ok, sound-without) e
+
+    pub slot-as-before : (k : ℕ) → withoutCores (slot m k) ≡ formerSlot (machineWithoutCores m) k
+    unfolding slot formerSlot slotCoresInRange withoutCores machineWithoutCores reportWithoutCores afterSlot withAssigned slotReport passed ranCount jobAt
+    slot-as-before k = past-0 _ _ (past (not (slotCoresInRange m k)) _ _ _ _ (refused _) (rw (same-runners k)))
+
+    pub release-alike : (number need : ℕ) → withoutCores (release m number need) ≡ release (machineWithoutCores m) number need
+    unfolding release withoutCores machineWithoutCores reportWithoutCores noCores inTable jobAt taskAt done withJob noReport
+    release-alike number need =
+        past-0 _ _
+        (past (not (inTable m number)) _ _ _ _ (refused _)
+        (past (not (needInRange (taskAt m (number - 1)) need)) _ _ _ _ (refused _)
+        (past (ltb 0 (jobAt m (number - 1) .gap)) _ _ _ _ (refused _) refl)))
+
+    pub finish-alike : (number : ℕ) → withoutCores (finish m number) ≡ finish (machineWithoutCores m) number
+    unfolding finish withoutCores machineWithoutCores reportWithoutCores noCores inTable jobAt done withJob noReport
+    finish-alike number =
+        past-0 _ _ (past (not (inTable m number)) _ _ _ _ (refused _) (past (not (jobAt m (number - 1) .«open»)) _ _ _ _ (refused _) refl))
+
+    -- a join records no core for its task, and none stands there
+    joined-alike : (t : Task) → machineWithoutCores (withJoined m t) ≡ withJoined (machineWithoutCores m) t
+    unfolding machineWithoutCores noCores withJoined
+    joined-alike t = rw (set-replicate {A = ℕ} maxTasks (m .table .count) 0)
+
+    after-verdict : (t : Task) (verdict : Outcome) (admits : Bool) → withoutCores (joinAfter verdict admits m t) ≡ joinAfter verdict admits (machineWithoutCores m) t
+    unfolding joinAfter withoutCores reportWithoutCores noCores done noReport
+    after-verdict t Done admits = past admits _ _ _ _ (rw (joined-alike t)) (refused _)
+    after-verdict t (Refused number place) admits = refl
+
+    pub join-alike : (t : Task) → withoutCores (join m t) ≡ join (machineWithoutCores m) t
+    unfolding join machineWithoutCores
+    join-alike t =
+        past-0 _ _
+        (past (not (inRange t)) _ _ _ _ (refused _) (past (leb maxTasks (m .table .count)) _ _ _ _ (refused _) (after-verdict t _ _)))
+
+    call-as-before : (call : Call) → withoutCores (step m call) ≡ formerStep (machineWithoutCores m) call
+    unfolding step formerStep
+    call-as-before (Release number need) = release-alike number need
+    call-as-before (Finish number) = finish-alike number
+    call-as-before (Slot k) = slot-as-before k
+    call-as-before (Join t) = join-alike t
+
+pub cores-play-no-part :
+    (m m' : Machine) → sound m ≡ true → sound m' ≡ true → machineWithoutCores m ≡ machineWithoutCores m'
+    → (call : Call) → withoutCores (step m call) ≡ withoutCores (step m' call)
+cores-play-no-part m m' ok ok' same call =
+    call-as-before m ok call ∙ ap (λ (b : Machine). formerStep b call) same ∙ sym (call-as-before m' ok' call)
+
+log-as-before : (calls : List Call) (m : Machine) → sound m ≡ true → logWithoutCores (play m calls) ≡ formerPlay (machineWithoutCores m) calls
+unfolding play logWithoutCores formerPlay withoutCores
+log-as-before [] m ok = refl
+log-as-before (call ∷ calls) m ok =
+    let rest = log-as-before calls (step m call .machine) (call-keeps m ok call .is-sound) in
+    rw (← call-as-before m ok call, rest)
+
+module _ (t : Table) (cores : ℕ) (starts : start t cores .outcome ≡ Done) where
+  -- a start records no core
+  fresh-without : machineWithoutCores (start t cores .machine) ≡ start t cores .machine
+  unfolding machineWithoutCores noCores start startAfter done
+  fresh-without = rw (sym (start-outcome t cores) ∙ starts)
+
+  pub list-as-before : (calls : List Call) → logWithoutCores (play (start t cores .machine) calls) ≡ formerPlay (start t cores .machine) calls
+  list-as-before calls =
+      log-as-before calls (start t cores .machine) (start-sound t cores starts .is-sound)
+      ∙ ap (λ (m : Machine). formerPlay m calls) fresh-without

@@ -1,0 +1,61 @@
+-- The slot as it was before document 02's change 4, said on the present machine with no core recorded, for the theorems of proofs/SlotAsBefore.antt alone.
+use Prim.Native.Nat.{ℕ}
+use mathlib.Core.Bool.{cond, not}
+use mathlib.Core.List.{List, [], _∷_}
+use lib.ListN.{replicate}
+use Rattle.tasks.specs.declared.outcome.Outcome.the-variants.{Done}
+use Rattle.tasks.specs.Limits.{maxTasks}
+use Rattle.tasks.specs.Refusals.{unsoundMachine, slotCoresOutOfRange}
+use Rattle.machine.specs.Pick.{runners}
+use Rattle.machine.specs.Slot.{slotReport, afterSlot}
+use Rattle.machine.specs.Sound.{sound}
+use Rattle.machine.specs.Calls.{refuse, release, finish, slotCoresInRange, join}
+use Rattle.machine.specs.Play.{Entry}
+use Rattle.machine.specs.declared.machine.Machine.{Machine}
+use Rattle.machine.specs.declared.call.Call.{Call}
+use Rattle.machine.specs.declared.call.Call.the-variants.{Release, Finish, Slot, Join}
+use Rattle.machine.specs.declared.answer.Answer.{Answer}
+use Rattle.machine.specs.declared.answer.Report.{Report}
+
+-- no core for any task
+unfoldable pub noCores : List ℕ
+noCores = replicate maxTasks 0
+
+-- "dropping the cores": of a machine, a report, an answer and a log
+unfoldable pub machineWithoutCores : Machine → Machine
+machineWithoutCores m = record { table = m .table; cores = m .cores; jobs = m .jobs; assigned = noCores }
+
+unfoldable pub reportWithoutCores : Report → Report
+reportWithoutCores r =
+    record { ran = r .ran; finished = r .finished; late = r .late; runners = r .runners; assigned = noCores }
+
+unfoldable pub withoutCores : Answer → Answer
+withoutCores a =
+    record { machine = machineWithoutCores (a .machine); outcome = a .outcome; report = reportWithoutCores (a .report) }
+
+unfoldable pub logWithoutCores : List Entry → List Entry
+logWithoutCores [] = []
+logWithoutCores (e ∷ log) =
+    record { call = e .call; outcome = e .outcome; report = reportWithoutCores (e .report) } ∷ logWithoutCores log
+
+-- the slot of before: the numbers 0 and 14, and then the four steps; no core is recorded and none is answered
+unfoldable pub formerSlot : Machine → (k : ℕ) → Answer
+formerSlot m k =
+    let ran = runners m k in
+    cond (not (sound m)) (refuse m unsoundMachine)
+    (cond (not (slotCoresInRange m k)) (refuse m slotCoresOutOfRange)
+    (record { machine = afterSlot m ran; outcome = Done; report = slotReport m ran noCores }))
+
+-- a call with the slot of before; the others are what they are
+unfoldable pub formerStep : Machine → Call → Answer
+formerStep m (Release number need) = release m number need
+formerStep m (Finish number) = finish m number
+formerStep m (Slot k) = formerSlot m k
+formerStep m (Join t) = join m t
+
+-- the log of a list of calls with the slot of before
+unfoldable pub formerPlay : Machine → List Call → List Entry
+formerPlay m [] = []
+formerPlay m (call ∷ calls) =
+    let answer = formerStep m call in
+    record { call = call; outcome = answer .outcome; report = answer .report } ∷ formerPlay (answer .machine) calls

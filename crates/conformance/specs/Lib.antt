@@ -1,0 +1,9 @@
+pub mod FormerSound
+pub mod FormerRelease
+pub mod FormerSlot
+pub mod Runs
+pub mod Cases
+pub mod CallExamples
+pub mod CoreExamples
+pub mod NeedExamples
+pub mod ManyTasks

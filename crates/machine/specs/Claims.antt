@@ -1,0 +1,93 @@
+-- Logs made by hand, and what the claim of demand 3 says of them, as entries of a list of computed tests: so that a weaker claim does not go unseen. `allTrue`
+-- of crate laws is the test, and the theorem stands in proofs/ClaimsHold.antt.
+use Prim.Native.Nat.{ℕ}
+use mathlib.Core.Bool.{Bool, true, false, not}
+use mathlib.Core.List.{List, [], _∷_}
+use lib.Dec.{eqb}
+use lib.ListN.{getD}
+use Rattle.laws.specs.Sums.{bit}
+use Rattle.tasks.specs.declared.table.Table.{Table}
+use Rattle.tasks.specs.declared.outcome.Outcome.the-variants.{Done, Refused}
+use Rattle.tasks.specs.Refusals.{unsoundMachine}
+use Rattle.tasks.specs.Table.{zeroTask}
+use Rattle.tasks.specs.Written.{task, tableOf}
+use Rattle.machine.specs.Slot.{noReport}
+use Rattle.machine.specs.Play.{Entry}
+use Rattle.machine.specs.InTime.{slotCount, closedBySlot, tableAfter}
+use Rattle.machine.specs.declared.call.Call.{Call}
+use Rattle.machine.specs.declared.call.Call.the-variants.{Release, Finish, Slot, Join}
+
+-- a slot of a log made by hand, by what it says of task 1: whether it ran, and whether it finished; of the others it says nothing
+unfoldable pub slotOf : (ran finished : Bool) → Entry
+slotOf ran finished =
+    record {
+      call = Slot 1;
+      outcome = Done;
+      report = record { ran = ran ∷ []; finished = finished ∷ []; late = []; runners = bit ran; assigned = [] };
+    }
+
+-- a slot in which task 1 did not run
+unfoldable pub idle : Entry
+idle = slotOf false false
+
+-- a slot in which it ran and did not finish
+unfoldable pub ran : Entry
+ran = slotOf true false
+
+-- a slot in which it ran and finished
+unfoldable pub ranLast : Entry
+ranLast = slotOf true true
+
+-- an accepted call that is no slot
+unfoldable pub acceptedCall : Call → Entry
+acceptedCall call = record { call = call; outcome = Done; report = noReport }
+
+-- a refused call
+unfoldable pub refusedCall : Call → Entry
+refusedCall call = record { call = call; outcome = Refused unsoundMachine 0; report = noReport }
+
+-- whether the claim takes a job of task 1 for closed in a log after its release
+unfoldable pub closedIn : (need deadline : ℕ) → List Entry → Bool
+closedIn need deadline log = closedBySlot 1 need deadline log
+
+-- document 01's example table, of three tasks
+unfoldable pub threeTasks : Table
+threeTasks = tableOf (task 4 1 4 ∷ task 6 2 5 ∷ task 10 6 8 ∷ [])
+
+-- what the claim says of logs
+unfoldable pub claims : List Bool
+claims =
+    -- by the second slot, and not by the third; a refused slot is not counted
+    closedIn 1 2 (idle ∷ ranLast ∷ []) ∷
+    not (closedIn 1 2 (idle ∷ idle ∷ ranLast ∷ [])) ∷
+    closedIn 1 2 (idle ∷ refusedCall (Slot 1) ∷ ranLast ∷ []) ∷
+    eqb (slotCount (idle ∷ refusedCall (Slot 1) ∷ acceptedCall (Finish 1) ∷ ranLast ∷ [])) 2 ∷
+    -- the whole need, and the last of its slots says that the task finished
+    closedIn 2 3 (ran ∷ idle ∷ ranLast ∷ []) ∷
+    not (closedIn 2 3 (idle ∷ idle ∷ ranLast ∷ [])) ∷
+    not (closedIn 2 3 (ran ∷ ran ∷ idle ∷ [])) ∷
+    not (closedIn 2 3 (ran ∷ ran ∷ ranLast ∷ [])) ∷
+    not (closedIn 3 3 (ran ∷ ranLast ∷ idle ∷ [])) ∷
+    closedIn 4 4 (ran ∷ ran ∷ ran ∷ ranLast ∷ []) ∷
+    closedIn 2 2 (ranLast ∷ ranLast ∷ []) ∷
+    not (closedIn 1 1 (slotOf false true ∷ [])) ∷
+    -- what a refused slot says does not count
+    closedIn 1 1 (record { call = Slot 1; outcome = Refused 14 0; report = ran .report } ∷ ranLast ∷ []) ∷
+    -- no other call counts as a slot or as a finish
+    closedIn 1 2 (acceptedCall (Release 2 1) ∷ idle ∷ ranLast ∷ []) ∷
+    not (closedIn 1 1 (acceptedCall (Release 1 1) ∷ idle ∷ [])) ∷
+    not (closedIn 1 1 (acceptedCall (Join (task 9 1 2)) ∷ idle ∷ [])) ∷
+    -- an accepted finish of the task, before the deadline
+    closedIn 2 2 (idle ∷ acceptedCall (Finish 1) ∷ idle ∷ []) ∷
+    not (closedIn 2 2 (refusedCall (Finish 1) ∷ idle ∷ idle ∷ [])) ∷
+    not (closedIn 2 2 (acceptedCall (Finish 2) ∷ idle ∷ idle ∷ [])) ∷
+    not (closedIn 2 2 (idle ∷ idle ∷ acceptedCall (Finish 1) ∷ [])) ∷
+    -- of task 2 these slots say nothing
+    not (closedBySlot 2 1 2 (idle ∷ ranLast ∷ [])) ∷
+    closedBySlot 2 1 1 (acceptedCall (Finish 2) ∷ idle ∷ []) ∷
+    not (closedBySlot 2 1 1 (acceptedCall (Finish 1) ∷ idle ∷ [])) ∷
+    -- an accepted join adds its task, a refused one does not
+    eqb (tableAfter threeTasks (acceptedCall (Join (task 9 1 2)) ∷ []) .count) 4 ∷
+    eqb (tableAfter threeTasks (refusedCall (Join (task 9 1 2)) ∷ []) .count) 3 ∷
+    eqb (getD (tableAfter threeTasks (acceptedCall (Release 1 1) ∷ acceptedCall (Join (task 9 1 2)) ∷ []) .tasks) 3 zeroTask .deadline) 2 ∷
+    []
