@@ -1,10 +1,10 @@
-//! Tables that tell the sharper test from its wrong versions, the smallest that a
+//! Tables that tell the slack test from its wrong versions, the smallest that a
 //! search found (the ignored tests of tests/search.rs), with their rounds and verdicts.
 
 use crate::tasks::Task;
 use crate::wrong::{EARLY_STOP, IN_PLACE, LAST_SLACKS, LIMIT_63, LIMIT_65, ROUNDED_UP};
 
-/// A table on so many cores, and what the sharper test answers.
+/// A table on so many cores, and what the slack test answers.
 pub struct Found {
     pub name: &'static str,
     pub cores: u32,

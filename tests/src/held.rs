@@ -121,7 +121,7 @@ pub struct Answer {
     pub count: u32,
     pub window: bool,
     pub rounds: u32,
-    pub sharper: bool,
+    pub slack: bool,
 }
 
 fn whole(number: u64) -> u64 {
@@ -137,7 +137,7 @@ fn capped<const MOST: u64>(number: u64) -> u64 {
 }
 
 impl Held {
-    /// The window test, which is the first round, and the sharper test.
+    /// The window test, which is the first round, and the slack test.
     pub fn answer(&self, table: &[Task], cores: u32) -> Answer {
         let mut slacks = vec![0; table.len()];
         let (count, mut after) = self.round(table, cores, &slacks);
@@ -151,7 +151,7 @@ impl Held {
             count,
             window: count <= cores,
             rounds,
-            sharper: reaching <= cores,
+            slack: reaching <= cores,
         }
     }
 

@@ -1,5 +1,5 @@
 //! What the joins of a script should meet (document 02, change 6): tasks that only the
-//! sharper test lets join, and their jobs.
+//! slack test lets join, and their jobs.
 
 use crate::reading::read;
 use crate::script::{Answer, Call, Script};
@@ -30,7 +30,7 @@ pub fn met(script: &Script, answers: &[Answer]) -> Vec<&'static str> {
     let mut record = Record {
         cores: script.cores,
         table: read(&script.table).unwrap_or_default(),
-        sharper: 0,
+        by_slack: 0,
         names: Vec::new(),
     };
     for (call, answer) in script.calls.iter().zip(answers) {
@@ -48,16 +48,16 @@ pub fn met(script: &Script, answers: &[Answer]) -> Vec<&'static str> {
 struct Record {
     cores: u32,
     table: Vec<Task>,
-    // Tasks that only the sharper test let join, as the sum of 2 to the power
+    // Tasks that only the slack test let join, as the sum of 2 to the power
     // (task number − 1).
-    sharper: u32,
+    by_slack: u32,
     names: Vec<&'static str>,
 }
 
 impl Record {
     // An accepted join.
     fn join(&mut self, task: Task) {
-        if self.sharper != 0 {
+        if self.by_slack != 0 {
             self.names.push(AFTER);
         }
         let before = window::admits(&self.table, self.cores);
@@ -65,7 +65,7 @@ impl Record {
         if window::admits(&self.table, self.cores) {
             return self.names.push(ACCEPTED_BY_BOTH);
         }
-        self.sharper |= 1 << (self.table.len() - 1);
+        self.by_slack |= 1 << (self.table.len() - 1);
         self.names.push(ACCEPTED);
         if before {
             self.names.push(FLIPS);
@@ -73,13 +73,13 @@ impl Record {
     }
 
     fn release(&mut self, number: u32) {
-        if self.sharper >> (number - 1) & 1 == 1 {
+        if self.by_slack >> (number - 1) & 1 == 1 {
             self.names.push(RELEASED);
         }
     }
 
     fn finished(&mut self, finished: u32) {
-        let jobs = (finished & self.sharper).count_ones();
+        let jobs = (finished & self.by_slack).count_ones();
         self.names.extend((0..jobs).map(|_| FINISHED));
     }
 }

@@ -1,6 +1,7 @@
-//! An independent check of the table reader, the window test, the sharper test and
-//! the slot machine, written from document 01 and changes 1 to 7 of document 02
-//! alone and compared with the C entry and the programs.
+//! An independent check of the table reader, the window test, the slack test and the
+//! slot machine, compared with the C entry and the programs. It was written from
+//! document 01, changes 1 to 7 of document 02, the handbook's formats and what
+//! docs/DECISIONS.md settles of these, and from no definition or code of crates/.
 
 pub mod assignment;
 pub mod cores;

@@ -2,7 +2,7 @@
 //! of "Why a call is not carried out", and changes 1 to 6 of document 02: each slot
 //! names its cores, of equal deadlines the longer job goes first, an open task whose
 //! gap is below its left makes a machine unsound, each runner has its own core, each
-//! release names its job's need, e, and joins go by the sharper test.
+//! release names its job's need, e, and joins go by the slack test.
 
 use std::cmp::Reverse;
 
@@ -137,7 +137,7 @@ impl Machine {
         Ok(self.close_jobs(&picked))
     }
 
-    /// Join of a task at the end of the table, by the sharper test. Refusals: 0, 5, 12, 13.
+    /// Join of a task at the end of the table, by the slack test. Refusals: 0, 5, 12, 13.
     pub fn join(&mut self, task: Task) -> Result<(), Refusal> {
         self.check_soundness()?;
         if !task.fits() {

@@ -5,7 +5,7 @@ use crate::reading::read;
 use crate::tasks::{MOST_CORES, MOST_TASKS, Task};
 use crate::{slack, window};
 
-/// The number that a host in C gets, by the sharper test. The reading's refusals come
+/// The number that a host in C gets, by the slack test. The reading's refusals come
 /// before number 7.
 pub fn admit(text: &[u8], cores: u32) -> u32 {
     match read(text).and_then(|table| slack::judge(&table, cores)) {
@@ -22,7 +22,7 @@ pub fn verdict_output(text: &[u8]) -> String {
     })
 }
 
-/// Everything that the program of the sharper test prints for a text.
+/// Everything that `sharper` prints for a text.
 pub fn sharper_output(text: &[u8]) -> String {
     judged_output(text, "CORES ROUNDS ADMIT", |table, cores| {
         let judged = slack::judge(table, cores).expect("a table on 1 to 16 cores");

@@ -15,7 +15,7 @@ pub fn verdict_output(text: &[u8]) -> Vec<u8> {
     output("VERDICT", "verdict", text)
 }
 
-/// Everything that the program of the sharper test prints for a text.
+/// Everything that `sharper` prints for a text.
 pub fn sharper_output(text: &[u8]) -> Vec<u8> {
     output("SHARPER", "sharper", text)
 }

@@ -1,6 +1,6 @@
 //! Demand 3 (document 01, "Demand 3 is a single claim about the whole list of
 //! calls", with changes 1, 5 and 6 of document 02), read from a script and its printed
-//! answers alone: on a table that the sharper test admits, whatever k each slot and
+//! answers alone: on a table that the slack test admits, whatever k each slot and
 //! whatever e each release names, no slot reports a late job, and each released job is
 //! closed in time, by having run e slots or by a finish. A refused slot is no slot in
 //! anybody's D.

@@ -38,7 +38,7 @@ const WILD: Rates = rates(16, 10, 6, 16);
 const JOINING: Rates = rates(16, 2, 24, 4);
 const COMPLETED: Rates = rates(40, 1, 4, 2);
 
-// Tables are filled up to the edge of the sharper test most of the time.
+// Tables are filled up to the edge of the slack test most of the time.
 const TESTS: [Admits; 3] = [slack::admits, slack::admits, window::admits];
 
 // How often a slot names more cores than m, and how often a number that is
@@ -187,7 +187,7 @@ fn packed(random: &mut Random) -> Script {
     on_table(random, cores, &table, rates)
 }
 
-// A table that the sharper test would refuse with its quotient rounded up: the slacks
+// A table that the slack test would refuse with its quotient rounded up: the slacks
 // count to the last slot.
 fn finest(random: &mut Random) -> Script {
     let cores = random.pick(&[2, 2, 2, 3, 4]);
@@ -204,7 +204,7 @@ fn finest(random: &mut Random) -> Script {
 }
 
 // A table as above, or one that a cut after 64 rounds decides, without its last tasks,
-// which join in between: most of them are tasks that only the sharper test admits.
+// which join in between: most of them are tasks that only the slack test admits.
 fn completed(random: &mut Random) -> Script {
     let mut cores = random.pick(&[1, 1, 2, 2, 3, 4]);
     let mut table = filled(random, cores, short);
@@ -443,7 +443,7 @@ fn some_task(random: &mut Random, machine: &Machine, so: fn(&Job) -> bool) -> Op
     (!found.is_empty()).then(|| random.pick(&found))
 }
 
-// Half of the time a task that only the sharper test admits, if a few tries find one.
+// Half of the time a task that only the slack test admits, if a few tries find one.
 fn near_edge_of_joins(random: &mut Random, machine: &Machine) -> Task {
     let any = joining(random, &machine.table);
     if random.one_in(2) || machine.table.len() == MOST_TASKS {

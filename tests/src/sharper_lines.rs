@@ -1,4 +1,4 @@
-//! What a comparison of the sharper test should meet: for a table on so many cores,
+//! What a comparison of the slack test should meet: for a table on so many cores,
 //! the rounds, the verdict beside the window test's, and the wrong versions that would
 //! answer otherwise.
 
@@ -21,7 +21,7 @@ const CUT_REFUSED: &str = "cut after 64 rounds, refused";
 
 const BOTH_ADMIT: &str = "admitted by both tests";
 const BOTH_REFUSE: &str = "refused by both tests";
-const SHARPER_ADMITS: &str = "admitted by the sharper test alone";
+const SLACK_ADMITS: &str = "admitted by the slack test alone";
 const WINDOW_ADMITS: &str = "admitted by the window test alone";
 
 /// The names of all that should be met. Nothing is admitted by the window test alone, an
@@ -29,7 +29,7 @@ const WINDOW_ADMITS: &str = "admitted by the window test alone";
 pub fn names() -> Vec<String> {
     let rounds = SETTLED.iter().map(|(name, _, _)| *name);
     let cuts = [CUT_ADMITTED, CUT_REFUSED];
-    let verdicts = [BOTH_ADMIT, BOTH_REFUSE, SHARPER_ADMITS];
+    let verdicts = [BOTH_ADMIT, BOTH_REFUSE, SLACK_ADMITS];
     let plain = rounds.chain(cuts).chain(verdicts).map(str::to_string);
     let told = WRONG
         .iter()
@@ -48,7 +48,7 @@ pub fn met(table: &[Task], cores: u32) -> Vec<String> {
     let verdicts = match (window, judged.admitted) {
         (true, true) => BOTH_ADMIT,
         (false, false) => BOTH_REFUSE,
-        (false, true) => SHARPER_ADMITS,
+        (false, true) => SLACK_ADMITS,
         (true, false) => WINDOW_ADMITS,
     };
     names.push(verdicts.to_string());

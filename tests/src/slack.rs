@@ -1,5 +1,5 @@
-//! The sharper admission: document 02, change 6, "the slack-based test in the spirit
-//! of document 002", with the refusals of judging a given table. Slacks start at 0, and
+//! The slack test: document 02, change 6, "the slack-based test in the spirit of
+//! document 002", with the refusals of judging a given table. Slacks start at 0, and
 //! a round takes all its sums from the slacks of the round before.
 
 use crate::tasks::{Refusal, Task};
@@ -23,7 +23,7 @@ pub struct Judged {
     pub admitted: bool,
 }
 
-/// The sharper verdict on a given table. Refusals: those of judging.
+/// The slack test of a given table. Refusals: those of judging.
 pub fn judge(table: &[Task], cores: u32) -> Result<Judged, Refusal> {
     let mut rounds = rounds(table, cores)?;
     let made = u32::try_from(rounds.len()).expect("at most 64 rounds");

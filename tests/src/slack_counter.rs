@@ -1,4 +1,4 @@
-//! The sharper test for tasks of document 000's experiment, by another way than round
+//! The slack test for tasks of document 000's experiment, by another way than round
 //! by round: single slacks are raised, in any order, until none can be. Slacks only
 //! grow, so both ways end with the same ones where the rounds end by themselves, and a
 //! sum reaches m times the spare just where the slack is 0.

@@ -12,7 +12,7 @@ const WORD: u64 = 65_536;
 const LARGEST_GOAL: u64 = 16 * 999_999;
 const LARGEST_SUM: u64 = 31 * 999_999;
 
-/// A table on so many cores, and the rounds of the sharper test.
+/// A table on so many cores, and the rounds of the slack test.
 pub struct Line<'a> {
     table: &'a [Task],
     cores: u32,
@@ -157,10 +157,10 @@ impl Line<'_> {
 pub fn names() -> Vec<String> {
     let events = EVENTS.iter().map(|(name, _)| name.to_string());
     let told = WRONG.iter().flat_map(|(wrong, _)| {
-        let sharper = [by_rounds(wrong), by_verdict(wrong)];
+        let slack = [by_rounds(wrong), by_verdict(wrong)];
         let window = [by_count(wrong), by_window(wrong)];
         let window = window.into_iter().filter(|_| *wrong != SLACK_16);
-        window.chain(sharper).collect::<Vec<_>>()
+        window.chain(slack).collect::<Vec<_>>()
     });
     events.chain(told).collect()
 }
@@ -193,7 +193,7 @@ fn differences(wrong: &str, right: Answer, other: Answer) -> Vec<String> {
         (right.count != other.count, by_count(wrong)),
         (right.window != other.window, by_window(wrong)),
         (right.rounds != other.rounds, by_rounds(wrong)),
-        (right.sharper != other.sharper, by_verdict(wrong)),
+        (right.slack != other.slack, by_verdict(wrong)),
     ];
     let differ = names.into_iter().filter(|(differs, _)| *differs);
     differ.map(|(_, name)| name).collect()

@@ -1,5 +1,5 @@
 //! Random valid tables, most of them near the edge of admission: of the window test
-//! (document 01) or of the sharper one (document 02, change 6).
+//! (document 01) or of the slack test (document 02, change 6).
 
 use crate::random::Random;
 use crate::slow;
@@ -18,7 +18,7 @@ pub fn valid(random: &mut Random) -> Vec<Task> {
     match random.below(16) {
         0 | 1 => level(random),
         2 | 3 => scattered(random),
-        4..=6 => near_sharper_edge(random),
+        4..=6 => near_slack_edge(random),
         7 => slow::table(random),
         _ => {
             let table = scattered(random);
@@ -27,8 +27,9 @@ pub fn valid(random: &mut Random) -> Vec<Task> {
     }
 }
 
-/// A table, most of them of a few tasks, one slot of one budget away from the other sharper verdict.
-pub fn near_sharper_edge(random: &mut Random) -> Vec<Task> {
+/// A table, most of them of a few tasks, one slot of one budget away from the slack
+/// test's other verdict.
+pub fn near_slack_edge(random: &mut Random) -> Vec<Task> {
     let most = random.pick(&[5, 5, 5, 5, 7, 7, 10, MOST_TASKS]);
     let tasks = 3 + random.below(most - 2);
     let table = of_tasks(random, tasks);

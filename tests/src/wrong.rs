@@ -1,4 +1,4 @@
-//! Wrong versions of the sharper test, which the tests must be able to tell from
+//! Wrong versions of the slack test, which the tests must be able to tell from
 //! document 02, change 6.
 
 use crate::tasks::Task;

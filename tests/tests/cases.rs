@@ -16,7 +16,7 @@ const CASE_H: [Task; 1] = [Task::new(5, 5, 5)];
 const CASE_I: [Task; 2] = [Task::new(5, 5, 5), Task::new(5, 5, 5)];
 
 // COUNT and admission for m = 1, 2 and so on, by every way to the verdict. The C entry
-// goes by the sharper test, which admits no more of these tables.
+// goes by the slack test, which admits no more of these tables.
 fn check(table: &[Task], expected: &[(u32, u32)]) {
     for order in ORDERS {
         let text = write(table, order);

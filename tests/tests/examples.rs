@@ -50,9 +50,9 @@ fn tables() {
     );
 }
 
-// The same tables by the sharper test, which admits the four tasks on 2 cores too.
+// The same tables by the slack test, which admits the four tasks on 2 cores too.
 #[test]
-fn tables_by_the_sharper_test() {
+fn tables_by_the_slack_test() {
     check_sharper("example.table", "CORES ROUNDS ADMIT\n1 1 0\n2 2 1\n3 2 1\n");
     check_sharper(
         "three_tasks.table",

@@ -1,10 +1,10 @@
 //! Document 000, section 3: its numbers of task sets and of test instances, and what the
-//! window test, the document's slack-based test and the sharper test admit of them.
+//! window test, the document's slack-based test and the slack test admit of them.
 //!
 //! The document gives one number of instances that its slack-based test admits, for
 //! three to six tasks together: 609,085,609. Its Algorithm 1 in double precision gives
 //! just that, 6,908 instances of six tasks on three processors among them by the rounding
-//! of one third. The sharper test differs in three ways. It makes its rounds at once and
+//! of one third. The slack test differs in three ways. It makes its rounds at once and
 //! goes on when at most m tasks have no slack; that changes no verdict where rounds end
 //! by themselves. And its slacks are whole slots, rounded up, where the document's are
 //! reals: so it admits whatever the document's test admits, and more from five tasks on.
@@ -30,31 +30,31 @@ struct Count {
     instances: u64,
     window: u64,
     document: u64,
-    sharper: u64,
+    slack: u64,
 }
 
-const fn count([instances, window, document, sharper]: [u64; 4]) -> Count {
+const fn count([instances, window, document, slack]: [u64; 4]) -> Count {
     Count {
         instances,
         window,
         document,
-        sharper,
+        slack,
     }
 }
 
 impl Count {
-    fn add(&mut self, [window, document, sharper]: [bool; 3]) {
+    fn add(&mut self, [window, document, slack]: [bool; 3]) {
         self.instances += 1;
         self.window += u64::from(window);
         self.document += u64::from(document);
-        self.sharper += u64::from(sharper);
+        self.slack += u64::from(slack);
     }
 
     fn add_all(&mut self, other: &Count) {
         self.instances += other.instances;
         self.window += other.window;
         self.document += other.document;
-        self.sharper += other.sharper;
+        self.slack += other.slack;
     }
 }
 
@@ -71,17 +71,17 @@ struct Instance<'a> {
 // The tests by counting slots.
 struct Counters {
     window: Counter,
-    sharper: SlackCounter,
+    slack: SlackCounter,
 }
 
-// The verdicts of the window test, the document's and the sharper one.
+// The verdicts of the window test, the document's and the slack test.
 type Verdicts = fn(&Counters, &Instance) -> [bool; 3];
 
 fn counts_of_pairs(size: usize, pairs: Range<u64>, verdicts: Verdicts) -> Counts {
     let tasks = tasks();
     let counters = Counters {
         window: Counter::new(&tasks),
-        sharper: SlackCounter::new(&tasks),
+        slack: SlackCounter::new(&tasks),
     };
     let mut counts = Counts::new();
     let mut table = Vec::new();
@@ -112,24 +112,24 @@ fn counts(size: usize, verdicts: Verdicts) -> Counts {
     counts
 }
 
-// The window test by two ways, and the sharper one by three: the C entry is one of them.
+// The window test by two ways, and the slack test by three: the C entry is one of them.
 fn by_all_ways(counters: &Counters, instance: &Instance) -> [bool; 3] {
     let Instance { set, table, cores } = *instance;
     let window = window::admits(table, cores);
     let counted = counters.window.admits(set, cores);
     assert_eq!(counted, window, "the window test, m = {cores}: {table:?}");
     let answer = host::admit(&write(table, ORDERS[0]), cores);
-    let sharper = slack::admits(table, cores);
+    let slack = slack::admits(table, cores);
     assert_eq!(
         answer,
-        u32::from(sharper),
+        u32::from(slack),
         "edzl_admit, m = {cores}: {table:?}"
     );
-    let counted = counters.sharper.admits(set, cores);
-    assert_eq!(counted, sharper, "the counter, m = {cores}: {table:?}");
+    let counted = counters.slack.admits(set, cores);
+    assert_eq!(counted, slack, "the counter, m = {cores}: {table:?}");
     let document = document_000::admits(table, cores);
-    assert!(sharper || !document && !window, "m = {cores}: {table:?}");
-    [window, document, sharper]
+    assert!(slack || !document && !window, "m = {cores}: {table:?}");
+    [window, document, slack]
 }
 
 // By the counts of slots alone. What the window test admits, the others admit.
@@ -137,9 +137,9 @@ fn by_counters(counters: &Counters, instance: &Instance) -> [bool; 3] {
     let Instance { set, table, cores } = *instance;
     let window = counters.window.admits(set, cores);
     let document = window || document_000::admits(table, cores);
-    let sharper = window || counters.sharper.admits(set, cores);
-    assert!(sharper || !document, "m = {cores}: {table:?}");
-    [window, document, sharper]
+    let slack = window || counters.slack.admits(set, cores);
+    assert!(slack || !document, "m = {cores}: {table:?}");
+    [window, document, slack]
 }
 
 // Three tasks on two cores: with at most m + 1 tasks the tests agree.

@@ -107,7 +107,7 @@ fn the_form_of_the_wrong_versions() {
                 count: verdict.count,
                 window: verdict.admitted,
                 rounds: judged.rounds,
-                sharper: judged.admitted,
+                slack: judged.admitted,
             };
             for version in [RIGHT, HARMLESS_CAP] {
                 let answer = version.answer(&table, cores);

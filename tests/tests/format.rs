@@ -1,6 +1,5 @@
-//! The format of scripts at its edges, with every expected output in a list.
-//! The lists UNSETTLED hold the details that the format leaves open: a change of
-//! mind is made there and nowhere else.
+//! The format of scripts (docs/HANDBOOK.md, "Replaying calls") at its edges, with every
+//! expected output in a list.
 
 use edzl_tests::program;
 use edzl_tests::script::MOST_SCRIPT_BYTES;
@@ -10,7 +9,7 @@ type Case = (&'static str, &'static str, &'static str);
 
 // Whole scripts. As in a table, 0 alone is well formed; the table is all that
 // stands between the lines CORES and CALLS.
-const SETTLED: [Case; 9] = [
+const SCRIPTS: [Case; 9] = [
     (
         "0 cores",
         "CORES 0\nPERIOD BUDGET DEADLINE\n4 1 4\nCALLS\n",
@@ -56,7 +55,7 @@ const SETTLED: [Case; 9] = [
 
 // Calls after START: the first one is line 6.
 const START: &str = "CORES 1\nPERIOD BUDGET DEADLINE\n4 1 4\n6 2 5\nCALLS\n";
-const SETTLED_CALLS: [Case; 19] = [
+const CALLS: [Case; 19] = [
     (
         "task 0",
         "RELEASE 0 1\nFINISH 0\n",
@@ -99,7 +98,7 @@ const SETTLED_CALLS: [Case; 19] = [
 ];
 
 // Releases after START, each with its job's need, e: task 1 takes 1, task 2 takes 1 and 2.
-const SETTLED_RELEASES: [Case; 32] = [
+const RELEASES: [Case; 32] = [
     ("release, no e", "RELEASE 1\n", "BAD LINE 6\n"),
     ("release, no e of no task", "RELEASE 9\n", "BAD LINE 6\n"),
     ("release, a space and no e", "RELEASE 1 \n", "BAD LINE 6\n"),
@@ -175,7 +174,7 @@ const SETTLED_RELEASES: [Case; 32] = [
 ];
 
 // Slots after START, each with its number of cores, k: 1 to 16 are accepted.
-const SETTLED_SLOTS: [Case; 23] = [
+const SLOTS: [Case; 23] = [
     ("slot, no number", "SLOT\n", "BAD LINE 6\n"),
     ("slot, a space and no number", "SLOT \n", "BAD LINE 6\n"),
     ("slot, a trailing space", "SLOT 2 \n", "BAD LINE 6\n"),
@@ -213,8 +212,8 @@ const SETTLED_SLOTS: [Case; 23] = [
     ),
 ];
 
-// The most natural readings of what the format does not say: whole scripts.
-const UNSETTLED: [Case; 13] = [
+// Scripts whose line CORES or CALLS is missing, not ended or not what it must be.
+const BROKEN_SCRIPTS: [Case; 13] = [
     ("nothing", "", "BAD LINE 1\n"),
     ("CORES not ended", "CORES 1", "BAD LINE 1\n"),
     ("CORES alone", "CORES 1\n", "BAD LINE 2\n"),
@@ -270,8 +269,8 @@ const UNSETTLED: [Case; 13] = [
     ),
 ];
 
-// The same for calls after START.
-const UNSETTLED_CALLS: [Case; 7] = [
+// Calls after START of which one is a line that is no call.
+const BROKEN_CALLS: [Case; 7] = [
     ("CALLS twice", "SLOT 1\nCALLS\n", "0 0 0 0\nBAD LINE 7\n"),
     ("two zeros", "RELEASE 00 1\n", "BAD LINE 6\n"),
     (
@@ -290,7 +289,7 @@ const UNSETTLED_CALLS: [Case; 7] = [
 ];
 
 // What a script of more than 65,536 bytes prints.
-const UNSETTLED_LENGTH: &str = "REFUSED 1\n";
+const TOO_LONG: &str = "REFUSED 1\n";
 
 fn printed(text: &str) -> String {
     let bytes = program::replay_output(text.as_bytes());
@@ -304,17 +303,17 @@ fn check(start: &str, cases: &[Case]) {
 }
 
 #[test]
-fn settled_details() {
-    check("", &SETTLED);
-    check(START, &SETTLED_CALLS);
-    check(START, &SETTLED_RELEASES);
-    check(START, &SETTLED_SLOTS);
+fn scripts_and_calls() {
+    check("", &SCRIPTS);
+    check(START, &CALLS);
+    check(START, &RELEASES);
+    check(START, &SLOTS);
 }
 
 #[test]
-fn unsettled_details() {
-    check("", &UNSETTLED);
-    check(START, &UNSETTLED_CALLS);
+fn broken_scripts_and_calls() {
+    check("", &BROKEN_SCRIPTS);
+    check(START, &BROKEN_CALLS);
 }
 
 // The table's text is limited to 4,096 bytes, whatever the script's length is.
@@ -335,5 +334,5 @@ fn a_script_of_65536_bytes_and_one_more() {
     let script = format!("{start}{}", "SLOT 1\n".repeat(slots));
     assert_eq!(script.len(), MOST_SCRIPT_BYTES);
     assert!(printed(&script) == "0 0 0 0\n".repeat(slots));
-    assert!(printed(&format!("{script}\n")) == UNSETTLED_LENGTH);
+    assert!(printed(&format!("{script}\n")) == TOO_LONG);
 }

@@ -30,12 +30,12 @@ const fn task(period: u32, budget: u32, deadline: u32) -> Task {
 const ONE: Task = task(1, 1, 1);
 const LARGEST: Task = task(1_000_000, 1, 1_000_000);
 
-const fn answer(count: u32, window: bool, rounds: u32, sharper: bool) -> Answer {
+const fn answer(count: u32, window: bool, rounds: u32, slack: bool) -> Answer {
     Answer {
         count,
         window,
         rounds,
-        sharper,
+        slack,
     }
 }
 
@@ -279,13 +279,13 @@ fn answers_of_the_entry_and_the_programs() {
     for told in &TOLD {
         let (name, cores, right) = (told.name, told.cores, told.right);
         let text = write(&told.table(), ORDERS[0]);
-        let (window, sharper) = (u32::from(right.window), u32::from(right.sharper));
-        assert_eq!(host::admit(&text, cores), sharper, "edzl_admit, {name}");
+        let (window, slack) = (u32::from(right.window), u32::from(right.slack));
+        assert_eq!(host::admit(&text, cores), slack, "edzl_admit, {name}");
         let printed = line(program::verdict_output(&text), cores);
         let expected = format!("{cores} {} {window}", right.count);
         assert_eq!(printed, expected, "verdict, {name}");
         let printed = line(program::sharper_output(&text), cores);
-        let expected = format!("{cores} {} {sharper}", right.rounds);
+        let expected = format!("{cores} {} {slack}", right.rounds);
         assert_eq!(printed, expected, "sharper, {name}");
     }
 }
@@ -309,7 +309,7 @@ fn every_wrong_version_is_told_apart() {
             let mut tables = TOLD.iter();
             tables.any(|told| so(&told.right, &told.answer(wrong)))
         };
-        let by_entry = differs(|right, other| right.sharper != other.sharper);
+        let by_entry = differs(|right, other| right.slack != other.slack);
         let by_rounds = differs(|right, other| right.rounds != other.rounds);
         let by_count = differs(|right, other| right.count != other.count);
         let by_window = differs(|right, other| right.window != other.window);

@@ -1,4 +1,4 @@
-//! Joins by the sharper test (document 02, change 6): literal sessions in which a task
+//! Joins by the slack test (document 02, change 6): literal sessions in which a task
 //! joins that the window test would refuse, its job is released and runs to its
 //! deadline, and joins of every table that was found by search.
 

@@ -1,7 +1,7 @@
 //! The task sets that source documents 002 and 000 work out, by the window test (all
-//! slacks zero) through the verdict program and by the sharper test through its program
+//! slacks zero) through the verdict program and by the slack test through its program
 //! and the C entry. Both documents write of EDZL tests; the slack-based one of document
-//! 000 has slacks no larger than the sharper test, so that a set that it admits must be
+//! 000 has slacks no larger than the slack test, so that a set that it admits must be
 //! admitted here, and one that it does not admit may be. The sums, the rounds and the
 //! verdicts for other numbers of cores are worked out by hand: a task counts as one that
 //! may turn urgent when its sum is at least m times its spare.
@@ -12,12 +12,12 @@ use edzl_tests::window::{spare, sum};
 use edzl_tests::{host, program};
 
 // The window test's sums and spares, its verdicts for m = 1, 2 and so on, and the rounds
-// and verdicts of the sharper test.
+// and verdicts of the slack test.
 struct Expected<const N: usize> {
     sums: [u64; N],
     spares: [u64; N],
     window: [u32; N],
-    sharper: [(u32, u32); N],
+    slack: [(u32, u32); N],
 }
 
 fn check<const N: usize>(table: [Task; N], expected: Expected<N>) {
@@ -25,7 +25,7 @@ fn check<const N: usize>(table: [Task; N], expected: Expected<N>) {
         assert_eq!(sum(&table, k), expected.sums[k], "sum of task {}", k + 1);
         assert_eq!(spare(task), expected.spares[k], "spare of task {}", k + 1);
     }
-    let numbers = (1..).zip(expected.sharper);
+    let numbers = (1..).zip(expected.slack);
     let lines = numbers.map(|(m, (rounds, verdict))| format!("{m} {rounds} {verdict}\n"));
     let lines = format!("CORES ROUNDS ADMIT\n{}", lines.collect::<String>());
     for order in ORDERS {
@@ -33,7 +33,7 @@ fn check<const N: usize>(table: [Task; N], expected: Expected<N>) {
         let sharper = String::from_utf8(program::sharper_output(&text));
         assert_eq!(sharper.as_ref(), Ok(&lines), "sharper");
         assert_eq!(window_verdicts(&text), expected.window, "verdict");
-        for (cores, (_, verdict)) in (1..).zip(expected.sharper) {
+        for (cores, (_, verdict)) in (1..).zip(expected.slack) {
             assert_eq!(host::admit(&text, cores), verdict, "m = {cores}");
         }
     }
@@ -64,13 +64,13 @@ fn document_002_section_4_three_tasks() {
         sums: [2, 8, 6],
         spares: [1, 4, 3],
         window: [0, 0, 1],
-        sharper: [(1, 0), (1, 0), (2, 1)],
+        slack: [(1, 0), (1, 0), (2, 1)],
     };
     check(table, expected);
 }
 
 // Document 002, section 5.2: schedulable on 2 cores by the improved test (BCB-I),
-// which uses slacks, and by the sharper test: task 3 has a slack of 6 − 11/2, rounded
+// which uses slacks, and by the slack test: task 3 has a slack of 6 − 11/2, rounded
 // down, and then task 4 one of 5 − 9/2. The document gives no verdict of the basic test
 // (BCB), the window test; it refuses the set because tasks 1, 2 and 4 may turn urgent.
 #[test]
@@ -85,7 +85,7 @@ fn document_002_section_5_2_four_tasks() {
         sums: [3, 3, 11, 10],
         spares: [1, 1, 6, 5],
         window: [0, 0, 1, 1],
-        sharper: [(1, 0), (3, 1), (3, 1), (2, 1)],
+        slack: [(1, 0), (3, 1), (3, 1), (2, 1)],
     };
     check(table, expected);
 }
@@ -99,7 +99,7 @@ fn document_000_section_3_2_demand_only() {
         sums: [2, 2, 2],
         spares: [1, 1, 1],
         window: [0, 0, 1],
-        sharper: [(1, 0), (1, 0), (2, 1)],
+        slack: [(1, 0), (1, 0), (2, 1)],
     };
     check(table, expected);
 }
@@ -112,7 +112,7 @@ fn document_000_section_3_2_utilization_only() {
         sums: [5, 12, 3, 11],
         spares: [2, 5, 1, 5],
         window: [0, 0, 1, 1],
-        sharper: [(1, 0), (1, 0), (3, 1), (3, 1)],
+        slack: [(1, 0), (1, 0), (3, 1), (3, 1)],
     };
     check(table, expected);
 }
@@ -127,7 +127,7 @@ fn document_000_section_3_2_slack_and_not_demand() {
         sums: [6, 9, 9, 13, 17],
         spares: [2, 3, 3, 9, 10],
         window: [0, 0, 1, 1, 1],
-        sharper: [(1, 0), (6, 1), (4, 1), (3, 1), (3, 1)],
+        slack: [(1, 0), (6, 1), (4, 1), (3, 1), (3, 1)],
     };
     check(table, expected);
 }
@@ -142,7 +142,7 @@ fn document_000_section_3_2_above_two_processors() {
         sums: [4, 4, 7, 15, 14],
         spares: [1, 1, 2, 6, 5],
         window: [0, 0, 1, 1, 1],
-        sharper: [(1, 0), (1, 0), (2, 1), (3, 1), (3, 1)],
+        slack: [(1, 0), (1, 0), (2, 1), (3, 1), (3, 1)],
     };
     check(table, expected);
 }
@@ -157,7 +157,7 @@ fn document_000_section_3_2_utilization_bound() {
         sums: [5, 10, 8, 15, 18],
         spares: [2, 5, 4, 9, 10],
         window: [0, 0, 1, 1, 1],
-        sharper: [(1, 0), (3, 0), (4, 1), (3, 1), (3, 1)],
+        slack: [(1, 0), (3, 0), (4, 1), (3, 1), (3, 1)],
     };
     check(table, expected);
 }
@@ -171,7 +171,7 @@ fn document_000_section_4_2_a_deadline_miss() {
         sums: [9, 3, 9, 14],
         spares: [3, 1, 3, 5],
         window: [0, 0, 1, 1],
-        sharper: [(1, 0), (1, 0), (2, 1), (2, 1)],
+        slack: [(1, 0), (1, 0), (2, 1), (2, 1)],
     };
     check(table, expected);
 }
@@ -185,7 +185,7 @@ fn document_000_section_4_2_no_deadline_miss() {
         sums: [3, 6, 6, 10],
         spares: [1, 2, 2, 4],
         window: [0, 0, 1, 1],
-        sharper: [(1, 0), (1, 0), (2, 1), (2, 1)],
+        slack: [(1, 0), (1, 0), (2, 1), (2, 1)],
     };
     check(table, expected);
 }

@@ -62,7 +62,7 @@ const EVENTS: [&str; 37] = [
     "a job closed in time past a refused slot, table admitted",
     "a job closed in time, too late if refused slots counted, table admitted",
     "a job open at the last call, table admitted",
-    "a job closed by running in time, table admitted by the sharper test alone",
+    "a job closed by running in time, table admitted by the slack test alone",
     "a job closed by running in time, table refused by slacks rounded down",
     "a late job, table refused",
     "a refused slot of k above 16 while a job is open",
@@ -84,7 +84,7 @@ const EVENTS: [&str; 37] = [
     "a slot that ties by the table's C would change, among tasks not urgent, table refused",
     "a slot that ties by the table's C would change, among urgent tasks, table refused",
     "a table admitted",
-    "a table admitted by the sharper test alone",
+    "a table admitted by the slack test alone",
     "a table grown to 32 tasks",
     "a table not admitted",
     "a task back after a pause, on another core",
@@ -149,7 +149,7 @@ impl Tally {
         let verdict = ["a table not admitted", "a table admitted"];
         self.event(verdict[usize::from(admitted)], 1);
         let alone = u64::from(admitted && !window_admits(script));
-        self.event("a table admitted by the sharper test alone", alone);
+        self.event("a table admitted by the slack test alone", alone);
         for (call, answer) in script.calls.iter().zip(answers) {
             self.kind(kind(*call, *answer));
         }
@@ -254,7 +254,7 @@ impl Tally {
     // The released jobs of an admitted table.
     fn kept(&mut self, script: &Script, kept: Kept) {
         if !window_admits(script) {
-            let name = "a job closed by running in time, table admitted by the sharper test alone";
+            let name = "a job closed by running in time, table admitted by the slack test alone";
             self.event(name, kept.by_running);
         }
         if !rounded_up_admits(script) {

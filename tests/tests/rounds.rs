@@ -1,4 +1,4 @@
-//! Tables that need many rounds or tell the sharper test from a wrong version: rounds,
+//! Tables that need many rounds or tell the slack test from a wrong version: rounds,
 //! verdicts and slacks as literals, by the model, the program and the C entry, and the
 //! wrong versions that answer otherwise.
 

@@ -1,4 +1,4 @@
-//! Generated texts through the program of the sharper test (document 02, change 6):
+//! Generated texts through the program of the slack test (document 02, change 6):
 //! everything that it prints against the model, and beside what the verdict program
 //! prints. SEED and TABLES change which and how many; some 2,000 meet every event.
 
@@ -16,7 +16,7 @@ fn text(seed: u64, index: u64) -> Vec<u8> {
     let table = match random.below(8) {
         0 | 1 => return texts::text(random.bits(), index),
         2 | 3 => tables::valid(&mut random),
-        4 | 5 => tables::near_sharper_edge(&mut random),
+        4 | 5 => tables::near_slack_edge(&mut random),
         6 => slow::table(&mut random),
         _ => slow::near_cut(&mut random),
     };

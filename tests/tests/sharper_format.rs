@@ -1,4 +1,4 @@
-//! What the program of the sharper test prints, byte by byte: the line of names, a line
+//! What the program of the slack test prints, byte by byte: the line of names, a line
 //! for each m up to 16 or the number of tasks, and the line of a refusal. Every expected
 //! output is a literal.
 

@@ -16,7 +16,7 @@ fn table(seed: u64, index: u64) -> (Vec<Task>, u32) {
     let mut random = Random::new(seed, index);
     let table = match random.below(4) {
         0 => tables::valid(&mut random),
-        1 | 2 => tables::near_sharper_edge(&mut random),
+        1 | 2 => tables::near_slack_edge(&mut random),
         _ => slow::table(&mut random),
     };
     let tasks = u32::try_from(table.len()).expect("at most 32 tasks");

@@ -22,7 +22,7 @@ struct Line {
     count: u32,
     rounds: u32,
     window: u32,
-    sharper: u32,
+    slack: u32,
 }
 
 // All tasks reach, and they are more than m.
@@ -31,7 +31,7 @@ const fn all_reach(tasks: u32) -> Line {
         count: tasks,
         rounds: 1,
         window: 0,
-        sharper: 0,
+        slack: 0,
     }
 }
 
@@ -41,7 +41,7 @@ const fn both_admit(count: u32) -> Line {
         count,
         rounds: 2,
         window: 1,
-        sharper: 1,
+        slack: 1,
     }
 }
 
@@ -60,8 +60,8 @@ fn check(table: &[Task], expected: impl Fn(u32) -> Line) {
     for m in 1..=tasks.min(MOST_CORES) {
         let line = expected(m);
         verdict += &format!("{m} {} {}\n", line.count, line.window);
-        sharper += &format!("{m} {} {}\n", line.rounds, line.sharper);
-        assert_eq!(host::admit(&text, m), line.sharper, "edzl_admit, m = {m}");
+        sharper += &format!("{m} {} {}\n", line.rounds, line.slack);
+        assert_eq!(host::admit(&text, m), line.slack, "edzl_admit, m = {m}");
     }
     assert_eq!(oracle::verdict_output(&text), verdict, "the model");
     assert_eq!(oracle::sharper_output(&text), sharper, "the model");
@@ -200,7 +200,7 @@ fn without_spare() {
         count: 16,
         rounds: 1,
         window: 1,
-        sharper: 1,
+        slack: 1,
     };
     check_16(&table(&[(1, full), (15, ONE)]), all_reach(16), admitted);
     check(&table(&[(1, full), (16, ONE)]), |_| all_reach(17));
@@ -262,13 +262,13 @@ fn a_slack_of_one_slot_decides() {
     let most = task(1_000_000, 999_995, 999_995);
     let others = task(999_999, 1, 999_999);
     let table = table(&[(15, ONE), (1, most), (1, LARGEST), (2, others)]);
-    let sharper_admits = Line {
+    let slack_admits = Line {
         count: 17,
         rounds: 3,
         window: 0,
-        sharper: 1,
+        slack: 1,
     };
-    check_16(&table, all_reach(19), sharper_admits);
+    check_16(&table, all_reach(19), slack_admits);
     check_first_round(&table, 16, [15_999_984, 15_999_984, 0]);
     check_first_round(&table, 17, [15_999_967, 15_999_968, 1]);
     let rounds = slack::rounds(&table, 16).expect("a verdict");
