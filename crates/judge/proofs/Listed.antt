@@ -1,7 +1,7 @@
 -- A table's numbers in flat lists. By the sums of the lists, each with the own part, others cite `urgent-listed`, what the window test counts, and
 -- `window-listed` and `admits-listed`, whether the slack test admits; `well-listed`; and of lists with the numbers of a table's tasks `ranges`, that
 -- they are in range, and that the tests say the same: `urgent-same`, `rounds-same-as`, `admits-same-as`; `numbers-listed` is of the table of three lists.
-use Prim.Native.Nat.{ℕ, _+_, _≤_, _<_}
+use Prim.Native.Nat.{ℕ, _≤_, _<_}
 use native.Mathlib.Omega.{arith}
 use mathlib.Core.Path.{_≡_, refl, sym, ap, _∙_}
 use mathlib.Core.Bool.{true}

@@ -1,4 +1,4 @@
--- What the arrays of the code hold after a round of the slack test: `AtRound`. Others cite `after-round`, by which a round leads to the next, with
+-- What the arrays of the code hold after a round of the slack test: `AtRound`. Others cite `after-round`, by which a round leads to the next, with `Computed`,
 -- `none-before`, `first-sum`, `first-on` and `next-sum`; `still-on`, where another round follows; and `last-held`, where none does.
 use Prim.Native.Nat.{ℕ, zero, suc, _+_, _-_, _<_}
 use native.Mathlib.Omega.{arith}

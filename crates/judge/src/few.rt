@@ -65,7 +65,8 @@ pub(crate) fn sums_anew<'a>(
     requires { ⌜ (count ≤ maxTasks) × (length (now sums) ≡ maxTasks) ⌝ }
     requires { ⌜ Ranges count (now periods) (now budgets) (now deadlines) ⌝ }
     ensures { λ _. ⌜ length (now (sums .exit)) ≡ maxTasks ⌝ }
-    ensures { λ _. ⌜ SumsWithOwn (listed (now (periods .entry)) (now (budgets .entry)) (now (deadlines .entry)) count) (λ i. getD (now (slacks .entry)) i 0) (now (sums .exit)) ⌝ }
+    ensures { λ _. ⌜ SumsWithOwn (listed (now (periods .entry)) (now (budgets .entry)) (now (deadlines .entry)) count)
+        (λ i. getD (now (slacks .entry)) i 0) (now (sums .exit)) ⌝ }
 {
     let mut k: usize = 0;
     while k < count {

@@ -164,7 +164,8 @@ pub(crate) fn next_sums<'a>(
     ensures { λ _. ⌜ length (now (sums .exit)) ≡ maxTasks ⌝ }
     ensures { λ _. ⌜ ((k : ℕ) → k < count →
         getD (now (sums .exit)) k 0
-        ≡ sumTo count (partOf (listed (now (periods .entry)) (now (budgets .entry)) (now (deadlines .entry)) count) (λ i. getD (now (slacks .entry)) i 0) k)) ⌝ }
+        ≡ sumTo count
+        (partOf (listed (now (periods .entry)) (now (budgets .entry)) (now (deadlines .entry)) count) (λ i. getD (now (slacks .entry)) i 0) k)) ⌝ }
 {
     if count <= FEW_TASKS {
         sums_anew(periods, budgets, deadlines, slacks, sums, count);

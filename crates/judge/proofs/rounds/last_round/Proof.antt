@@ -1,13 +1,13 @@
 -- `last_round` meets its contract. The invariant: the arrays hold what round `made` gives, and the rounds go on if some slack changed.
-use Prim.Native.Nat.{ℕ, suc, _+_, _-_, _≤_, _<_}
+use Prim.Native.Nat.{ℕ, suc, _+_, _-_, _≤_}
 use native.Mathlib.Omega.{arith}
 use mathlib.Core.Path.{_≡_, refl, sym, ap, _∙_}
 use mathlib.Core.Logic.{_⊎_, inl, inr, ⊎-elim}
-use lib.ListN.{length, getD, replicate}
+use lib.ListN.{length, replicate}
 use Rattle.laws.proofs.Replaced.{replicate-entry}
 use Rattle.edzl.specs.TaskSet.{TaskSet}
-use Rattle.edzl.specs.Window.{spare, windowSum}
-use Rattle.edzl.specs.Slack.{ofTask, allRounds}
+use Rattle.edzl.specs.Window.{spare}
+use Rattle.edzl.specs.Slack.{allRounds}
 use Rattle.edzl.proofs.WellFormed.{WellFormed}
 use Rattle.edzl.proofs.SlackRounds.{slackAfter, slacks-fit}
 use Rattle.judge.specs.Listed.{listed}
