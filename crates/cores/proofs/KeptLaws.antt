@@ -1,5 +1,6 @@
--- The cores that runners keep. Others cite: `length-kept`; `kept-at`, each entry; `kept-some`, what an entry that is not 0 is (`Keeps`); and `kept-count`,
--- that the cores kept and the runners without one are no more than the runners. Of lists: `isDistinct` with `distinct-more`, and `AllInside`.
+-- The cores that runners keep. Others cite: `length-kept`; `kept-at`, each entry; `kept-some`, what an entry that is not 0 is (`Keeps`); `without`, the number
+-- of runners that have none, with `without-set`; and `kept-count`, that the cores kept and the runners without one are no more than the runners. Of
+-- lists: `isDistinct` with `distinct-more`, and `AllInside`.
 use Prim.Native.Nat.{ℕ, _+_, _≤_, _<_}
 use mathlib.Core.Path.{_≡_, refl, sym, _∙_}
 use mathlib.Core.List.{List, [], _∷_, _++_}

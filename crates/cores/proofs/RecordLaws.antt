@@ -1,5 +1,5 @@
--- Sound records of cores, entry by entry: `Apart`, with `sound-apart` and `apart-sound`; `apart-same`, of a list whose entries are the same or 0. Of a part
--- of a sound record: `sound-drop`.
+-- Sound records of cores, entry by entry: `Apart`, with `sound-apart` and `apart-sound`; `apart-same`, of a list whose entries are the same or 0. Of the first
+-- entry of a sound record: `First`, with `first-sound`; of a part of one: `sound-drop`.
 use Prim.Native.Nat.{ℕ, zero, suc, _≤_}
 use mathlib.Core.Path.{_≡_, refl, sym, _∙_}
 use mathlib.Core.List.{List, [], _∷_}

@@ -1,5 +1,5 @@
 -- The runners that take a core, in precedence, as the code goes: `Taking`, with `taking-none`, `taking-one`, `taking-has` and `taking-far`; `takes-lowest` says
--- that the flags give the lowest unused core.
+-- that the flags give the lowest unused core, and `lowest-fits` that it is no more than the tasks.
 use Prim.Native.Nat.{ℕ, _+_, _≤_, _<_, min}
 use mathlib.Core.Path.{_≡_, refl, ap, _∙_}
 use mathlib.Core.List.{List, _∷_}

@@ -1,6 +1,6 @@
--- The first unused core. Others cite: `first-same`, that it goes by the uses of the n cores alone; `first-is`
--- and `none-unused`, by them; `some-unused`, that where fewer than n entries of a list
--- are not 0 one of the cores 1 to n is not among them (`Unused`), and `first-within`, that then no more cores matter; `first-bound`; and of the number of entries that are not 0, `someCount`, `some-set` and `some-few`.
+-- The first unused core. Others cite: `first-same`, that it goes by the uses of the n cores alone; `first-is` and `none-unused`, by them; `some-unused`,
+-- that where fewer than n entries of a list are not 0 one of the cores 1 to n is not among them (`Unused`), and `first-within`, that then no more cores
+-- matter; `first-bound`; and of the number of entries that are not 0, `someCount`, `none-some`, `some-set` and `some-few`.
 use Prim.Native.Nat.{ℕ, zero, suc, _+_, _≤_, _<_, min}
 use mathlib.Core.Path.{_≡_, refl, sym}
 use mathlib.Core.List.{List, [], _∷_}

@@ -12,7 +12,7 @@ ghost use Rattle.cores.specs.Used.{KeptCores};
 pub type Cores = [u32; MAX_TASKS];
 
 // A flag for 0 and for as many cores as there are tasks: while a task has none, one of these is unused.
-const FLAGS: usize = 33;
+const USED_FLAGS: usize = MAX_TASKS + 1;
 
 // The core that a runner keeps, by its recorded one: 0 where it keeps none.
 fn kept_core(recorded: u32, available: u32) -> u32
@@ -36,7 +36,7 @@ fn keep(recorded: Cores, runners: &[usize], available: u32, cores: &mut [u32], u
         if i < MAX_TASKS {
             let core = kept_core(recorded[i], available);
             cores[i] = core;
-            if (core as usize) < FLAGS {
+            if (core as usize) < USED_FLAGS {
                 used[core as usize] = true;
             }
         }
@@ -44,11 +44,11 @@ fn keep(recorded: Cores, runners: &[usize], available: u32, cores: &mut [u32], u
 }
 
 // The lowest core that is not used, of those that have a flag: 0 where there is none up to the number available.
-fn first_unused(used: [bool; FLAGS], available: u32) -> usize
-    ensures { λ r. ⌜ r ≡ firstUnused (λ core. getD used core false) 1 (min available 32) ⌝ }
+fn first_unused(used: [bool; USED_FLAGS], available: u32) -> usize
+    ensures { λ r. ⌜ r ≡ firstUnused (λ core. getD used core false) 1 (min available maxTasks) ⌝ }
 {
     let mut core: usize = 1;
-    while core < FLAGS {
+    while core < USED_FLAGS {
         if (available as usize) < core {
             return 0;
         }
@@ -66,7 +66,7 @@ pub fn assign(recorded: Cores, runners: &[usize], available: u32) -> Cores
     ensures { λ r. ⌜ r ≡ assignment recorded available (now (runners .entry)) ⌝ }
 {
     let mut cores = [0u32; MAX_TASKS];
-    let mut used = [false; FLAGS];
+    let mut used = [false; USED_FLAGS];
     keep(recorded, runners, available, &mut cores, &mut used);
     let mut n: usize = 0;
     while n < runners.len() {

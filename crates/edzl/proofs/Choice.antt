@@ -1,5 +1,5 @@
--- A legal choice of runners in a slot. Others cite: `Beats`, `LegalChoice`; and `urgent-runs`, that every urgent job runs where the invariant
--- holds and the test counts at most m tasks.
+-- A legal choice of runners in a slot. Others cite: `Beats` with its cases, `LegalChoice`; and `urgent-runs`, that every urgent job runs
+-- (`UrgentRun`) where the invariant holds and the test counts at most m tasks.
 use Prim.Native.Nat.{ℕ, _≤_, _<_}
 use mathlib.Core.Path.{_≡_}
 use mathlib.Core.Bool.{Bool, true, false}

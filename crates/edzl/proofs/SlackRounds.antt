@@ -1,8 +1,8 @@
 -- The rounds of the slack test, counted on past the last change. Others cite: `roundAfter` and `slackAfter`, the round of a number and its slacks, with
 -- `slack-start`, `sum-next` and `slack-next`; `LastRound` with `last-round`, that all rounds come to the round of their number, and `made-is`; `round-one`,
--- that the sums of round 1 are the window test's; and the theorems `slacks-fit`, `slacks-longer`, `slacks-grow`, `few-urgent`, what an admitted set has, and
--- `window-admits`.
-use Prim.Native.Nat.{ℕ, zero, suc, _+_, _*_, _-_, _≤_, _<_}
+-- that the sums of round 1 are the window test's; and the theorems `slacks-fit`, `slacks-longer`, `few-urgent`, what an admitted set has, and
+-- `window-admits`. That the slacks grow is the theorem `slacks-grow`.
+use Prim.Native.Nat.{ℕ, zero, suc, _+_, _*_, _≤_, _<_}
 use mathlib.Core.Path.{_≡_, refl, ap, _∙_}
 use mathlib.Core.Bool.{Bool, true, false}
 use native.Mathlib.Nat.{le-refl, le-trans}

@@ -2,10 +2,10 @@
 use mathlib.Core.Path.{_≡_, refl}
 use mathlib.Core.Bool.{true}
 use Rattle.laws.specs.Examples.{allTrue}
-use Rattle.edzl.specs.SlackExamples.{task, setOf, slackIs}
+use Rattle.edzl.specs.SlackExamples.{plainTask, setOf, plainSlackIs}
 use Rattle.edzl.specs.SumExamples.{firstSumIs, countIs, longWith, oneBelow, oneAbove, sumExamples}
 use Rattle.edzl.proofs.SlackExamplesHold.{computingTests}
 
 pub sum-examples-hold : allTrue sumExamples ≡ true
-unfolding computingTests allTrue task setOf slackIs firstSumIs countIs longWith oneBelow oneAbove sumExamples
+unfolding computingTests allTrue plainTask setOf plainSlackIs firstSumIs countIs longWith oneBelow oneAbove sumExamples
 sum-examples-hold = refl

@@ -9,10 +9,11 @@ use Rattle.edzl.specs.TaskSet.{TaskSet}
 use Rattle.laws.specs.Sums.{sumTo, bit}
 use Rattle.edzl.specs.Window.{spare, windowSum}
 
--- A list with a number for each task, f 0 to f (count − 1), and the number of task i in such a list.
+-- A list with a number for each task, f 0 to f (count − 1).
 unfoldable pub perTask : TaskSet → (ℕ → ℕ) → List ℕ
 perTask tasks f = replaced (tasks .count) f (replicate (tasks .count) 0)
 
+-- The number of task i in such a list.
 unfoldable pub ofTask : List ℕ → ℕ → ℕ
 ofTask numbers i = getD numbers i 0
 

@@ -7,7 +7,7 @@ use mathlib.Core.List.{List, [], _∷_}
 use lib.Dec.{eqb}
 use lib.ListN.{replicate}
 use Rattle.edzl.specs.Window.{noSlack, windowSum, countUrgent}
-use Rattle.edzl.specs.SlackExamples.{Numbers, task, setOf, slackIs}
+use Rattle.edzl.specs.SlackExamples.{Numbers, plainTask, setOf, plainSlackIs}
 
 -- the sum of the first task in the window test
 unfoldable pub firstSumIs : List Numbers → (sum : ℕ) → Bool
@@ -19,36 +19,37 @@ countIs tasks m count = eqb (countUrgent (setOf tasks) noSlack m) count
 
 -- a task 1,000,000, 1, 1,000,000 with n tasks 1, 1, 1
 unfoldable pub longWith : (n : ℕ) → List Numbers
-longWith n = task 1_000_000 1 1_000_000 ∷ replicate n (task 1 1 1)
+longWith n = plainTask 1_000_000 1 1_000_000 ∷ replicate n (plainTask 1 1 1)
 
 -- the long task with 15 of them, and a task that adds 999,998
 unfoldable pub oneBelow : List Numbers
-oneBelow = task 1_000_000 1 1_000_000 ∷ task 1_000_000 999_998 999_998 ∷ replicate 15 (task 1 1 1)
+oneBelow = plainTask 1_000_000 1 1_000_000 ∷ plainTask 1_000_000 999_998 999_998 ∷ replicate 15 (plainTask 1 1 1)
 
 -- the long task with 16 of them, and a task that adds 1
 unfoldable pub oneAbove : List Numbers
-oneAbove = task 1_000_000 1 1_000_000 ∷ task 1_000_000 1 1 ∷ replicate 16 (task 1 1 1)
+oneAbove = plainTask 1_000_000 1 1_000_000 ∷ plainTask 1_000_000 1 1 ∷ replicate 16 (plainTask 1 1 1)
 
+-- sums below m·A_k of the first task, at it and above it, and the largest
 unfoldable pub sumExamples : List Bool
 sumExamples =
     -- 15 tasks 1, 1, 1: below m·A
     firstSumIs (longWith 15) 14_999_985 ∷
     countIs (longWith 15) 16 15 ∷
-    slackIs (longWith 15) 16 2 true ∷
+    plainSlackIs (longWith 15) 16 2 true ∷
     -- one below it
     firstSumIs oneBelow 15_999_983 ∷
     countIs oneBelow 16 16 ∷
-    slackIs oneBelow 16 2 true ∷
+    plainSlackIs oneBelow 16 2 true ∷
     -- 16: at it
     firstSumIs (longWith 16) 15_999_984 ∷
     countIs (longWith 16) 16 17 ∷
-    slackIs (longWith 16) 16 1 false ∷
+    plainSlackIs (longWith 16) 16 1 false ∷
     -- one above it
     firstSumIs oneAbove 15_999_985 ∷
     countIs oneAbove 16 18 ∷
-    slackIs oneAbove 16 1 false ∷
+    plainSlackIs oneAbove 16 1 false ∷
     -- 31: the largest sum
     firstSumIs (longWith 31) 30_999_969 ∷
     countIs (longWith 31) 16 32 ∷
-    slackIs (longWith 31) 16 1 false ∷
+    plainSlackIs (longWith 31) 16 1 false ∷
     []

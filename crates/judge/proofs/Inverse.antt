@@ -18,7 +18,6 @@ half = 2 ^ 32
 pub record Guessed (T C L S g : ℕ) : Type 0 where
   pub small : g ≤ L
   pub within : g * T ≤ L
-  pub nearly : L < g * T + (T + T)
   pub budgets : g * C ≤ g * T
   pub part-is : min (g * C + min C (L - g * T) + min C (L - g * T - T)) S ≡ min (interference T C L) S
 
@@ -68,7 +67,6 @@ module _ (T C L : ℕ) (T-some : 1 ≤ T) (C-fits : C ≤ T) (L-fits : L ≤ 1_0
       record {
         small = omega (arith, n .low, mul-le-mul-left g T-some);
         within = n .low;
-        nearly = n .high;
         budgets = mul-le-mul-left g C-fits;
         part-is =
             by-order T (L - g * T)

@@ -1,7 +1,7 @@
 -- A table's numbers in flat lists. By the sums of the lists, each with the own part, others cite `urgent-listed`, what the window test counts, and
 -- `window-listed` and `admits-listed`, whether the slack test admits; `well-listed`; and of lists with the numbers of a table's tasks `ranges`, that
 -- they are in range, and that the tests say the same: `urgent-same`, `rounds-same-as`, `admits-same-as`; `numbers-listed` is of the table of three lists.
-use Prim.Native.Nat.{ℕ, _+_, _≤_, _<_}
+use Prim.Native.Nat.{ℕ, _≤_, _<_}
 use native.Mathlib.Omega.{arith}
 use mathlib.Core.Path.{_≡_, refl, sym, ap, _∙_}
 use mathlib.Core.Bool.{true}
@@ -25,28 +25,27 @@ use Rattle.edzl.proofs.SlackRounds.{window-admits}
 use Rattle.edzl.proofs.SlackSame.{rounds-same, admits-same}
 use Rattle.tasks.specs.TaskSet.{firstTasks}
 use Rattle.judge.specs.Listed.{SameNumbers, listed, Ranges}
-use Rattle.judge.proofs.OwnPart.{ownPart, needed, count-with-own}
+use Rattle.judge.specs.Parts.{needed, SumsWithOwn, LastSumsWithOwn}
+use Rattle.judge.proofs.OwnPart.{count-with-own}
 
 pub well-listed : (n : ℕ) (periods budgets deadlines : List ℕ) → Ranges n periods budgets deadlines → WellFormed (listed periods budgets deadlines n)
 unfolding WellFormed
 well-listed n periods budgets deadlines r i h = let own = r i h in record { budget-some = own .0; budget-fits = own .1; deadline-fits = own .2 }
 
 module _ (n : ℕ) (periods budgets deadlines : List ℕ) (m : ℕ) (sums : List ℕ) (counted : ℕ)
-    (counted-is : counted ≡ sumTo n (λ k. bit (leb (needed m (getD deadlines k 0) (getD budgets k 0)) (getD sums k 0)))) where
+    (counted-is : counted ≡ sumTo n (λ k. bit (leb (needed m (getD budgets k 0) (getD deadlines k 0)) (getD sums k 0)))) where
   pub urgent-listed :
-      ((k : ℕ) → k < n →
-      getD sums k 0 ≡ windowSum (listed periods budgets deadlines n) noSlack k + ownPart (getD deadlines k 0) (getD budgets k 0)) →
+      SumsWithOwn (listed periods budgets deadlines n) noSlack sums →
       counted ≡ countUrgent (listed periods budgets deadlines n) noSlack m
   unfolding countUrgent mayTurnUrgent
   urgent-listed are =
       let set = listed periods budgets deadlines n in
-      counted-is ∙ count-with-own set m (λ k. getD sums k 0) (windowSum set noSlack) are
+      counted-is ∙ count-with-own set m sums (windowSum set noSlack) are
 
   -- What the window test admits, the slack test admits.
   pub window-listed :
       Ranges n periods budgets deadlines →
-      ((k : ℕ) → k < n →
-      getD sums k 0 ≡ windowSum (listed periods budgets deadlines n) noSlack k + ownPart (getD deadlines k 0) (getD budgets k 0)) →
+      SumsWithOwn (listed periods budgets deadlines n) noSlack sums →
       counted ≤ m →
       slackAdmits (listed periods budgets deadlines n) m ≡ true
   unfolding admitted
@@ -55,13 +54,12 @@ module _ (n : ℕ) (periods budgets deadlines : List ℕ) (m : ℕ) (sums : List
       window-admits set m (well-listed n periods budgets deadlines fit) (le-leb (countUrgent set noSlack m) m (rw (urgent-listed are) at few))
 
   pub admits-listed :
-      ((k : ℕ) → k < n →
-      getD sums k 0 ≡ ofTask (allRounds (listed periods budgets deadlines n) m .sums) k + ownPart (getD deadlines k 0) (getD budgets k 0)) →
+      LastSumsWithOwn (listed periods budgets deadlines n) m sums →
       leb counted m ≡ slackAdmits (listed periods budgets deadlines n) m
   unfolding slackAdmits countReaching reaches
   admits-listed are =
       let set = listed periods budgets deadlines n in
-      ap (λ (c : ℕ). leb c m) (counted-is ∙ count-with-own set m (λ k. getD sums k 0) (ofTask (allRounds set m .sums)) are)
+      ap (λ (c : ℕ). leb c m) (counted-is ∙ count-with-own set m sums (ofTask (allRounds set m .sums)) are)
 
 module _ (tasks : List Task) (n : ℕ) (periods budgets deadlines : List ℕ) (lists : SameNumbers tasks n periods budgets deadlines) where
   pub ranges : ((i : ℕ) → i < n → inRange (getD tasks i zeroTask) ≡ true) → Ranges n periods budgets deadlines

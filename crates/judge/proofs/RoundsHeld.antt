@@ -1,4 +1,4 @@
--- What the arrays of the code hold after a round of the slack test: `AtRound`. Others cite `after-round`, by which a round leads to the next, with
+-- What the arrays of the code hold after a round of the slack test: `AtRound`. Others cite `after-round`, by which a round leads to the next, with `Computed`,
 -- `none-before`, `first-sum`, `first-on` and `next-sum`; `still-on`, where another round follows; and `last-held`, where none does.
 use Prim.Native.Nat.{ℕ, zero, suc, _+_, _-_, _<_}
 use native.Mathlib.Omega.{arith}
@@ -12,27 +12,27 @@ use borrow.Author.Tests.{eq-eqb, ne-eqb}
 use Rattle.edzl.specs.TaskSet.{TaskSet}
 use Rattle.laws.specs.Sums.{sumTo, bit}
 use Rattle.edzl.specs.Window.{spare, noSlack, windowSum}
-use Rattle.edzl.specs.Slack.{ofTask, newSlack, noneChanges, roundsFrom, allRounds}
+use Rattle.edzl.specs.Slack.{newSlack, noneChanges, roundsFrom, allRounds}
 use Rattle.edzl.proofs.WellFormed.{WellFormed}
 use Rattle.laws.proofs.SumLaws.{sum-same}
 use Rattle.edzl.proofs.SlackRounds.{roundAfter, slackAfter, sum-next, slack-next, slacks-fit, made-is, round-one, slack-start}
-use Rattle.judge.proofs.OwnPart.{partOf, ownPart, sum-with-own}
+use Rattle.judge.specs.Parts.{partOf, ownPart, SumsWithOwn, LastSumsWithOwn}
+use Rattle.judge.proofs.OwnPart.{sum-with-own}
 
 -- After round r + 1: the slacks before it are those of round r, the sums are those of the round, each with the own part, and the slacks are the round's; the
 -- rounds go on if some slack changed.
 pub record AtRound (tasks : TaskSet) (m r : ℕ) (before sums slacks : List ℕ) (changed : ℕ) : Type 0 where
   pub before-are : (k : ℕ) → k < tasks .count → getD before k 0 ≡ slackAfter tasks m r k
-  pub sums-are : (k : ℕ) → k < tasks .count →
-      getD sums k 0 ≡ windowSum tasks (slackAfter tasks m r) k + ownPart (tasks .deadline k) (tasks .budget k)
+  pub sums-are : SumsWithOwn tasks (slackAfter tasks m r) sums
   pub slacks-are : (k : ℕ) → k < tasks .count → getD slacks k 0 ≡ slackAfter tasks m (suc r) k
   pub goes-on : allRounds tasks m ≡ roundsFrom tasks m (64 - suc r) (eqb changed 0) (roundAfter tasks m (suc r))
 
 -- What the code computes in a round from the slacks `old`: the sums, the slacks, and how many of them changed.
 pub record Computed (tasks : TaskSet) (m : ℕ) (slack : ℕ → ℕ) (old sums slacks : List ℕ) (changed : ℕ) : Type 0 where
-  pub sums-are : (k : ℕ) → k < tasks .count → getD sums k 0 ≡ windowSum tasks slack k + ownPart (tasks .deadline k) (tasks .budget k)
+  pub sums-are : SumsWithOwn tasks slack sums
   pub slacks-are : (k : ℕ) → k < tasks .count →
       getD slacks k 0
-      ≡ newSlack m (tasks .deadline k - tasks .budget k) (getD sums k 0 - ownPart (tasks .deadline k) (tasks .budget k))
+      ≡ newSlack m (tasks .deadline k - tasks .budget k) (getD sums k 0 - ownPart (tasks .budget k) (tasks .deadline k))
   pub changed-is : changed ≡ sumTo (tasks .count) (λ k. bit (not (eqb (getD old k 0) (getD slacks k 0))))
 
 module _ (tasks : TaskSet) (m : ℕ) where
@@ -43,7 +43,7 @@ module _ (tasks : TaskSet) (m : ℕ) where
         slacks-next : (k : ℕ) → k < tasks .count → getD slacks k 0 ≡ slackAfter tasks m (suc r) k
         unfolding spare
         slacks-next k h =
-            let e : getD sums k 0 - ownPart (tasks .deadline k) (tasks .budget k) ≡ windowSum tasks (slackAfter tasks m r) k =
+            let e : getD sums k 0 - ownPart (tasks .budget k) (tasks .deadline k) ≡ windowSum tasks (slackAfter tasks m r) k =
             omega (arith, computed .sums-are k h)
             in
             computed .slacks-are k h ∙ rw e (sym (slack-next tasks m r k h))
@@ -79,7 +79,7 @@ module _ (tasks : TaskSet) (m : ℕ) where
       (k : ℕ) →
       k < tasks .count →
       sumTo (tasks .count) (partOf tasks (λ i. getD slacks i 0) k)
-      ≡ windowSum tasks (slackAfter tasks m r) k + ownPart (tasks .deadline k) (tasks .budget k)
+      ≡ windowSum tasks (slackAfter tasks m r) k + ownPart (tasks .budget k) (tasks .deadline k)
   next-sum well r slacks slacks-are k h =
       sum-same _ _ (tasks .count) (λ i l. rw (slacks-are i l))
       ∙ sum-with-own tasks well (slackAfter tasks m r) k h (slacks-fit tasks m r k h)
@@ -105,11 +105,9 @@ module _ (tasks : TaskSet) (m : ℕ) where
         out end = refl
 
     -- Then these are the rounds made and the sums of the last round.
-    pub last-held : (changed ≡ 0) ⊎ (suc r ≡ 64) →
-        (suc r ≡ allRounds tasks m .made)
-        × ((k : ℕ) → k < tasks .count → getD sums k 0 ≡ ofTask (allRounds tasks m .sums) k + ownPart (tasks .deadline k) (tasks .budget k))
+    pub last-held : (changed ≡ 0) ⊎ (suc r ≡ 64) → (suc r ≡ allRounds tasks m .made) × LastSumsWithOwn tasks m sums
     last-held end =
         let e = ended end in (
           rw e (sym (made-is tasks m (suc r))),
-          λ k h. held .sums-are k h ∙ rw e (ap (λ (n : ℕ). n + ownPart (tasks .deadline k) (tasks .budget k)) (sym (sum-next tasks m r k h))),
+          λ k h. held .sums-are k h ∙ rw e (ap (λ (n : ℕ). n + ownPart (tasks .budget k) (tasks .deadline k)) (sym (sum-next tasks m r k h))),
         )

@@ -8,6 +8,7 @@ use mathlib.Core.Path.{_≡_}
 use lib.ListN.{getD}
 use Rattle.tasks.specs.declared.table.Table.{Table}
 use Rattle.tasks.specs.declared.outcome.Outcome.the-variants.{Done}
+use Rattle.tasks.specs.Limits.{maxTasks, maxCores, maxPeriod}
 use Rattle.tasks.specs.Table.{zeroTask}
 use Rattle.tasks.specs.Check.{checked}
 use Rattle.tasks.specs.TaskSet.{firstTasks, tasksOf}
@@ -26,12 +27,12 @@ module _ (t : Table) (m : ℕ) (judges : checked t m ≡ Done) where
   range i h = range-of (getD (t .tasks) i zeroTask) (passes t m judges .tasks-fit i h)
 
   module _ (k : ℕ) (h : k < t .count) where
-    spare-fits : spare (tasksOf t) k ≤ 1_000_000
+    spare-fits : spare (tasksOf t) k ≤ maxPeriod
     unfolding spare tasksOf firstTasks
     spare-fits = let r = range k h in omega (arith, r .deadline-fits, r .period-fits)
 
     pub part-fits : (slack : ℕ → ℕ) (i : ℕ) → i < t .count →
-        let tasks = tasksOf t in interference (tasks .period i) (tasks .budget i) (tasks .deadline k - slack i) ≤ 1_000_000
+        let tasks = tasksOf t in interference (tasks .period i) (tasks .budget i) (tasks .deadline k - slack i) ≤ maxPeriod
     unfolding tasksOf firstTasks
     part-fits slack i l =
         let r = range k h in
@@ -40,22 +41,22 @@ module _ (t : Table) (m : ℕ) (judges : checked t m ≡ Done) where
         let within : getD (t .tasks) i zeroTask .budget ≤ getD (t .tasks) i zeroTask .period = omega (arith, s .budget-fits, s .deadline-fits) in
         le-trans (at-most _ _ some within (getD (t .tasks) k zeroTask .deadline - slack i)) (omega (arith, r .deadline-fits, r .period-fits))
 
-    pub sum-fits : (slack : ℕ → ℕ) → windowSum (tasksOf t) slack k ≤ 31 * 1_000_000
+    pub sum-fits : (slack : ℕ → ℕ) → windowSum (tasksOf t) slack k ≤ (maxTasks - 1) * maxPeriod
     unfolding windowSum tasksOf firstTasks
     sum-fits slack =
-        let bound : windowSum (tasksOf t) slack k + 1_000_000 ≤ t .count * 1_000_000 =
-        others-bound _ 1_000_000 k (t .count) h (λ i l. omega (arith, spare-fits))
+        let bound : windowSum (tasksOf t) slack k + maxPeriod ≤ t .count * maxPeriod =
+        others-bound _ maxPeriod k (t .count) h (λ i l. omega (arith, spare-fits))
         in
         omega (arith, bound, passes t m judges .count-fits)
 
     pub whole-sum-fits : (slack : ℕ → ℕ) →
         let tasks = tasksOf t in
-        sumTo (t .count) (λ i. min (interference (tasks .period i) (tasks .budget i) (tasks .deadline k - slack i)) (spare tasks k)) ≤ 32 * 1_000_000
+        sumTo (t .count) (λ i. min (interference (tasks .period i) (tasks .budget i) (tasks .deadline k - slack i)) (spare tasks k)) ≤ maxTasks * maxPeriod
     whole-sum-fits slack =
-        le-trans (sum-bound _ 1_000_000 (t .count) (λ i l. omega (arith, spare-fits))) (omega (arith, passes t m judges .count-fits))
+        le-trans (sum-bound _ maxPeriod (t .count) (λ i l. omega (arith, spare-fits))) (omega (arith, passes t m judges .count-fits))
 
-    pub reach-fits : m * spare (tasksOf t) k ≤ 16 * 1_000_000
+    pub reach-fits : m * spare (tasksOf t) k ≤ maxCores * maxPeriod
     reach-fits = mul-le-mul (passes t m judges .cores-fit) spare-fits
 
-    pub slack-fits : (sum : ℕ) → newSlack m (spare (tasksOf t) k) sum ≤ 1_000_000
+    pub slack-fits : (sum : ℕ) → newSlack m (spare (tasksOf t) k) sum ≤ maxPeriod
     slack-fits sum = le-trans (new-fits m (spare (tasksOf t) k) sum) spare-fits

@@ -1,4 +1,5 @@
 pub mod Judge
 pub mod SlackJudge
 pub mod Listed
+pub mod Parts
 pub mod SlackExamples

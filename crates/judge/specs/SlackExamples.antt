@@ -39,6 +39,7 @@ refusedIs t cores number place =
 unfoldable pub fourTasks : List Task
 fourTasks = task 2 1 2 ∷ task 2 1 2 ∷ task 7 1 7 ∷ task 8 3 8 ∷ []
 
+-- verdicts of the slack test, and its refusals
 unfoldable pub slackExamples : List Bool
 slackExamples =
     -- document 002's four tasks on 2 cores; case g

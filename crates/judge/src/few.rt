@@ -1,14 +1,15 @@
 // The sums of few tasks, added up anew in each round with a division for each part: where they are so few, that is faster than sums.rt.
-use crate::sums::saturating_sub;
-use crate::urgent::own_part;
-use edzl::least;
+use edzl::min;
+use edzl::own_part;
+use edzl::saturating_sub;
 use tasks::table::PerTask;
-ghost use Prim.Native.Nat.{ℕ, _+_, _-_, _≤_, _<_, min};
+ghost use Prim.Native.Nat.{_+_, _≤_, _<_};
 ghost use mathlib.Core.Path.{_≡_};
 ghost use lib.ListN.{length, getD};
 ghost use Rattle.tasks.specs.Limits.{maxTasks, maxPeriod};
-ghost use Rattle.edzl.specs.Window.{interference, windowSum};
+ghost use Rattle.edzl.specs.Window.{windowSum};
 ghost use Rattle.judge.specs.Listed.{listed, Ranges};
+ghost use Rattle.judge.specs.Parts.{part, ownPart, SumsWithOwn};
 
 // Up to so many tasks are few.
 pub(crate) const FEW_TASKS: usize = 3;
@@ -16,11 +17,11 @@ pub(crate) const FEW_TASKS: usize = 3;
 // What a task counts for in the sum of one with this window and this spare.
 fn divided_part(period: u32, budget: u32, window: u32, spare: u32) -> u32
     requires { ⌜ (1 ≤ period) × (budget ≤ period) × (window ≤ maxPeriod) ⌝ }
-    ensures { λ r. ⌜ r ≡ min (interference period budget window) spare ⌝ }
+    ensures { λ r. ⌜ r ≡ part period budget window spare ⌝ }
 {
     let whole = window / period;
     let left = window - whole * period;
-    least(whole * budget + least(budget, left), spare)
+    min(whole * budget + min(budget, left), spare)
 }
 
 // The sum of task k, where each task has its slack. It counts the task itself too.
@@ -36,7 +37,7 @@ fn sum_of<'a>(
     requires { ⌜ Ranges count (now periods) (now budgets) (now deadlines) ⌝ }
     ensures { λ r. ⌜ r
         ≡ windowSum (listed (now (periods .entry)) (now (budgets .entry)) (now (deadlines .entry)) count) (λ i. getD (now (slacks .entry)) i 0) k
-        + min (getD (now (budgets .entry)) k 0) (getD (now (deadlines .entry)) k 0 - getD (now (budgets .entry)) k 0) ⌝ }
+        + ownPart (getD (now (budgets .entry)) k 0) (getD (now (deadlines .entry)) k 0) ⌝ }
 {
     let deadline = deadlines[k];
     let spare = deadline - budgets[k];
@@ -64,10 +65,8 @@ pub(crate) fn sums_anew<'a>(
     requires { ⌜ (count ≤ maxTasks) × (length (now sums) ≡ maxTasks) ⌝ }
     requires { ⌜ Ranges count (now periods) (now budgets) (now deadlines) ⌝ }
     ensures { λ _. ⌜ length (now (sums .exit)) ≡ maxTasks ⌝ }
-    ensures { λ _. ⌜ ((k : ℕ) → k < count →
-        getD (now (sums .exit)) k 0
-        ≡ windowSum (listed (now (periods .entry)) (now (budgets .entry)) (now (deadlines .entry)) count) (λ i. getD (now (slacks .entry)) i 0) k
-        + min (getD (now (budgets .entry)) k 0) (getD (now (deadlines .entry)) k 0 - getD (now (budgets .entry)) k 0)) ⌝ }
+    ensures { λ _. ⌜ SumsWithOwn (listed (now (periods .entry)) (now (budgets .entry)) (now (deadlines .entry)) count)
+        (λ i. getD (now (slacks .entry)) i 0) (now (sums .exit)) ⌝ }
 {
     let mut k: usize = 0;
     while k < count {

@@ -1,19 +1,20 @@
 // The rounds of the slack test: document 02, change 6.
 use crate::sums::next_sums;
-use crate::sums::saturating_sub;
-use crate::urgent::own_part;
+use edzl::own_part;
+use edzl::saturating_sub;
 use tasks::limits::MAX_TASKS;
 use tasks::table::PerTask;
-ghost use Prim.Native.Nat.{ℕ, _+_, _-_, _≤_, _<_, min};
+ghost use Prim.Native.Nat.{ℕ, _-_, _≤_, _<_};
 ghost use mathlib.Core.Path.{_≡_};
 ghost use mathlib.Core.Bool.{not};
 ghost use lib.Dec.{eqb};
 ghost use lib.ListN.{length, getD};
 ghost use Rattle.tasks.specs.Limits.{maxTasks, maxCores, maxPeriod};
 ghost use Rattle.laws.specs.Sums.{sumTo, bit};
-ghost use Rattle.edzl.specs.Window.{windowSum, noSlack};
-ghost use Rattle.edzl.specs.Slack.{ofTask, newSlack, allRounds};
+ghost use Rattle.edzl.specs.Window.{noSlack};
+ghost use Rattle.edzl.specs.Slack.{newSlack, allRounds};
 ghost use Rattle.judge.specs.Listed.{listed, Ranges};
+ghost use Rattle.judge.specs.Parts.{spareAt, ownPart, SumsWithOwn, LastSumsWithOwn};
 
 // "or after 64"
 const MAX_ROUNDS: u32 = 64;
@@ -22,8 +23,8 @@ const MAX_ROUNDS: u32 = 64;
 // counts the task itself too. The compiler makes no branch of it.
 fn slack_of(budget: u32, deadline: u32, sum: u32, cores: u32) -> u32
     requires { ⌜ (budget ≤ deadline) × (deadline ≤ maxPeriod) × (1 ≤ cores) × (cores ≤ maxCores) ⌝ }
-    requires { ⌜ min budget (deadline - budget) ≤ sum ⌝ }
-    ensures { λ r. ⌜ r ≡ newSlack cores (deadline - budget) (sum - min budget (deadline - budget)) ⌝ }
+    requires { ⌜ ownPart budget deadline ≤ sum ⌝ }
+    ensures { λ r. ⌜ r ≡ newSlack cores (deadline - budget) (sum - ownPart budget deadline) ⌝ }
 {
     let spare = deadline - budget;
     let needed = cores * spare + own_part(budget, spare);
@@ -43,13 +44,12 @@ fn next_slacks<'a>(
     requires { ⌜ ((k : ℕ) → k < count →
         (getD (now budgets) k 0 ≤ getD (now deadlines) k 0)
         × (getD (now deadlines) k 0 ≤ maxPeriod)
-        × (min (getD (now budgets) k 0) (getD (now deadlines) k 0 - getD (now budgets) k 0) ≤ getD (now sums) k 0)) ⌝ }
+        × (ownPart (getD (now budgets) k 0) (getD (now deadlines) k 0) ≤ getD (now sums) k 0)) ⌝ }
     ensures { λ _. ⌜ length (now (slacks .exit)) ≡ maxTasks ⌝ }
     ensures { λ _. ⌜ ((k : ℕ) → k < count →
         getD (now (slacks .exit)) k 0
-        ≡ newSlack cores (getD (now (deadlines .entry)) k 0 - getD (now (budgets .entry)) k 0)
-        (getD (now (sums .entry)) k 0
-        - min (getD (now (budgets .entry)) k 0) (getD (now (deadlines .entry)) k 0 - getD (now (budgets .entry)) k 0))) ⌝ }
+        ≡ newSlack cores (spareAt (now (budgets .entry)) (now (deadlines .entry)) k)
+        (getD (now (sums .entry)) k 0 - ownPart (getD (now (budgets .entry)) k 0) (getD (now (deadlines .entry)) k 0))) ⌝ }
     ensures { λ r. ⌜ r ≡ sumTo count (λ k. bit (not (eqb (getD (now (slacks .entry)) k 0) (getD (now (slacks .exit)) k 0)))) ⌝ }
 {
     let mut changed: u32 = 0;
@@ -76,15 +76,9 @@ pub(crate) fn last_round<'a>(
 ) -> u32
     requires { ⌜ (count ≤ maxTasks) × (length (now sums) ≡ maxTasks) × (1 ≤ cores) × (cores ≤ maxCores) ⌝ }
     requires { ⌜ Ranges count (now periods) (now budgets) (now deadlines) ⌝ }
-    requires { ⌜ ((k : ℕ) → k < count →
-        getD (now sums) k 0
-        ≡ windowSum (listed (now periods) (now budgets) (now deadlines) count) noSlack k
-        + min (getD (now budgets) k 0) (getD (now deadlines) k 0 - getD (now budgets) k 0)) ⌝ }
+    requires { ⌜ SumsWithOwn (listed (now periods) (now budgets) (now deadlines) count) noSlack (now sums) ⌝ }
     ensures { λ r. ⌜ r ≡ allRounds (listed (now (periods .entry)) (now (budgets .entry)) (now (deadlines .entry)) count) cores .made ⌝ }
-    ensures { λ _. ⌜ ((k : ℕ) → k < count →
-        getD (now (sums .exit)) k 0
-        ≡ ofTask (allRounds (listed (now (periods .entry)) (now (budgets .entry)) (now (deadlines .entry)) count) cores .sums) k
-        + min (getD (now (budgets .entry)) k 0) (getD (now (deadlines .entry)) k 0 - getD (now (budgets .entry)) k 0)) ⌝ }
+    ensures { λ _. ⌜ LastSumsWithOwn (listed (now (periods .entry)) (now (budgets .entry)) (now (deadlines .entry)) count) cores (now (sums .exit)) ⌝ }
 {
     let mut before = [0u32; MAX_TASKS];
     let mut slacks = before;

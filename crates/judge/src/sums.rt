@@ -2,23 +2,18 @@
 // itself too: the tests allow for that.
 use crate::few::FEW_TASKS;
 use crate::few::sums_anew;
-use edzl::least;
+use edzl::min;
+use edzl::saturating_sub;
 use tasks::limits::MAX_TASKS;
 use tasks::table::PerTask;
-ghost use Prim.Native.Nat.{ℕ, _+_, _-_, _*_, _≤_, _<_, min};
+ghost use Prim.Native.Nat.{ℕ, _+_, _-_, _*_, _≤_, _<_};
 ghost use mathlib.Core.Path.{_≡_};
 ghost use lib.ListN.{length, getD};
 ghost use Rattle.tasks.specs.Limits.{maxTasks, maxPeriod};
-ghost use Rattle.edzl.specs.Window.{interference, noSlack, windowSum};
+ghost use Rattle.edzl.specs.Window.{noSlack};
 ghost use Rattle.laws.specs.Sums.{sumTo};
 ghost use Rattle.judge.specs.Listed.{listed, Ranges, inverseOf};
-
-// What is left of a number when another is taken from it: nothing at least.
-pub(crate) fn saturating_sub(number: u32, taken: u32) -> u32
-    ensures { λ r. ⌜ r ≡ number - taken ⌝ }
-{
-    if taken < number { number - taken } else { 0 }
-}
+ghost use Rattle.judge.specs.Parts.{part, partOf, spareAt, SumsWithOwn};
 
 // The inverse of a period: a window times it, without the lower 32 bits, is the window's quotient by the period or one less. One
 // division here spares one for every window.
@@ -34,13 +29,13 @@ fn inverse_of(period: u32) -> u32
 fn part_of(period: u32, budget: u32, inverse: u32, window: u32, spare: u32) -> u32
     requires { ⌜ (1 ≤ period) × (period ≤ maxPeriod) × (budget ≤ period) × (window ≤ maxPeriod) ⌝ }
     requires { ⌜ inverse ≡ inverseOf period ⌝ }
-    ensures { λ r. ⌜ r ≡ min (interference period budget window) spare ⌝ }
+    ensures { λ r. ⌜ r ≡ part period budget window spare ⌝ }
 {
     let guess = (window as u64 * inverse as u64 >> 32) as u32;
     let left = window - guess * period;
     let more = saturating_sub(left, period);
-    let interference = guess * budget + least(budget, left) + least(budget, more);
-    least(interference, spare)
+    let interference = guess * budget + min(budget, left) + min(budget, more);
+    min(interference, spare)
 }
 
 // Adds to each of the first `count` sums what one task counts for in it.
@@ -61,8 +56,7 @@ fn add_parts(
     ensures { λ _. ⌜ ((k : ℕ) → k < count →
         getD (now (sums .exit)) k 0
         ≡ getD (now (sums .entry)) k 0
-        + min (interference period budget (getD (now (deadlines .entry)) k 0))
-        (getD (now (deadlines .entry)) k 0 - getD (now (budgets .entry)) k 0)) ⌝ }
+        + part period budget (getD (now (deadlines .entry)) k 0) (spareAt (now (budgets .entry)) (now (deadlines .entry)) k)) ⌝ }
 {
     let inverse = inverse_of(period);
     let mut k: usize = 0;
@@ -86,10 +80,7 @@ pub(crate) fn window_sums<'a>(
     requires { ⌜ Ranges count (now periods) (now budgets) (now deadlines) ⌝ }
     requires { ⌜ ((k : ℕ) → k < count → getD (now sums) k 0 ≡ 0) ⌝ }
     ensures { λ _. ⌜ length (now (sums .exit)) ≡ maxTasks ⌝ }
-    ensures { λ _. ⌜ ((k : ℕ) → k < count →
-        getD (now (sums .exit)) k 0
-        ≡ windowSum (listed (now (periods .entry)) (now (budgets .entry)) (now (deadlines .entry)) count) noSlack k
-        + min (getD (now (budgets .entry)) k 0) (getD (now (deadlines .entry)) k 0 - getD (now (budgets .entry)) k 0)) ⌝ }
+    ensures { λ _. ⌜ SumsWithOwn (listed (now (periods .entry)) (now (budgets .entry)) (now (deadlines .entry)) count) noSlack (now (sums .exit)) ⌝ }
 {
     if count <= FEW_TASKS {
         let none = [0u32; MAX_TASKS];
@@ -120,17 +111,14 @@ fn move_parts(
     requires { ⌜ ((k : ℕ) → k < count → getD (now budgets) k 0 ≤ getD (now deadlines) k 0) ⌝ }
     requires { ⌜ ((k : ℕ) → k < count → getD (now deadlines) k 0 ≤ maxPeriod) ⌝ }
     requires { ⌜ ((k : ℕ) → k < count →
-        (min (interference period budget (getD (now deadlines) k 0 - before)) (getD (now deadlines) k 0 - getD (now budgets) k 0)
-        ≤ getD (now sums) k 0)
+        (part period budget (getD (now deadlines) k 0 - before) (spareAt (now budgets) (now deadlines) k) ≤ getD (now sums) k 0)
         × (getD (now sums) k 0 ≤ maxTasks * maxPeriod)) ⌝ }
     ensures { λ _. ⌜ length (now (sums .exit)) ≡ maxTasks ⌝ }
     ensures { λ _. ⌜ ((k : ℕ) → k < count →
         getD (now (sums .exit)) k 0
         ≡ getD (now (sums .entry)) k 0
-        - min (interference period budget (getD (now (deadlines .entry)) k 0 - before))
-        (getD (now (deadlines .entry)) k 0 - getD (now (budgets .entry)) k 0)
-        + min (interference period budget (getD (now (deadlines .entry)) k 0 - slack))
-        (getD (now (deadlines .entry)) k 0 - getD (now (budgets .entry)) k 0)) ⌝ }
+        - part period budget (getD (now (deadlines .entry)) k 0 - before) (spareAt (now (budgets .entry)) (now (deadlines .entry)) k)
+        + part period budget (getD (now (deadlines .entry)) k 0 - slack) (spareAt (now (budgets .entry)) (now (deadlines .entry)) k)) ⌝ }
 {
     let inverse = inverse_of(period);
     let mut k: usize = 0;
@@ -171,19 +159,13 @@ pub(crate) fn next_sums<'a>(
     requires { ⌜ Ranges count (now periods) (now budgets) (now deadlines) ⌝ }
     requires { ⌜ ((k : ℕ) → k < count →
         getD (now sums) k 0
-        ≡ sumTo count
-        (λ i. min
-        (interference (getD (now periods) i 0) (getD (now budgets) i 0) (getD (now deadlines) k 0 - getD (now before) i 0))
-        (getD (now deadlines) k 0 - getD (now budgets) k 0))) ⌝ }
-    requires { ⌜ ((k : ℕ) → k < count → getD (now slacks) k 0 ≤ getD (now deadlines) k 0 - getD (now budgets) k 0) ⌝ }
+        ≡ sumTo count (partOf (listed (now periods) (now budgets) (now deadlines) count) (λ i. getD (now before) i 0) k)) ⌝ }
+    requires { ⌜ ((k : ℕ) → k < count → getD (now slacks) k 0 ≤ spareAt (now budgets) (now deadlines) k) ⌝ }
     ensures { λ _. ⌜ length (now (sums .exit)) ≡ maxTasks ⌝ }
     ensures { λ _. ⌜ ((k : ℕ) → k < count →
         getD (now (sums .exit)) k 0
         ≡ sumTo count
-        (λ i. min
-        (interference (getD (now (periods .entry)) i 0) (getD (now (budgets .entry)) i 0)
-        (getD (now (deadlines .entry)) k 0 - getD (now (slacks .entry)) i 0))
-        (getD (now (deadlines .entry)) k 0 - getD (now (budgets .entry)) k 0))) ⌝ }
+        (partOf (listed (now (periods .entry)) (now (budgets .entry)) (now (deadlines .entry)) count) (λ i. getD (now (slacks .entry)) i 0) k)) ⌝ }
 {
     if count <= FEW_TASKS {
         sums_anew(periods, budgets, deadlines, slacks, sums, count);

@@ -1,11 +1,11 @@
 // How many tasks may turn urgent.
 use crate::numbers::numbers_of;
 use crate::sums::window_sums;
-use edzl::least;
+use edzl::own_part;
 use tasks::limits::MAX_TASKS;
 use tasks::table::PerTask;
 use tasks::task::Task;
-ghost use Prim.Native.Nat.{ℕ, _+_, _-_, _*_, _≤_, _<_, min};
+ghost use Prim.Native.Nat.{ℕ, _≤_, _<_};
 ghost use mathlib.Core.Path.{_≡_};
 ghost use mathlib.Core.Bool.{true};
 ghost use lib.Dec.{leb};
@@ -16,13 +16,7 @@ ghost use Rattle.tasks.specs.Table.{zeroTask};
 ghost use Rattle.laws.specs.Sums.{sumTo, bit};
 ghost use Rattle.edzl.specs.Window.{countUrgent, noSlack};
 ghost use Rattle.tasks.specs.TaskSet.{firstTasks};
-
-// What a task counts for in its own sum: in a window of its deadline less its slack it interferes by its budget.
-pub(crate) fn own_part(budget: u32, spare: u32) -> u32
-    ensures { λ r. ⌜ r ≡ min budget spare ⌝ }
-{
-    least(budget, spare)
-}
+ghost use Rattle.judge.specs.Parts.{needed};
 
 // How many tasks have a sum over the others that is at least `cores` times their spare. The sums count the task itself
 // too, so its own part stands on both sides.
@@ -39,10 +33,7 @@ pub(crate) fn count_by_sums<'a>(
     ensures { λ r. ⌜ r
         ≡ sumTo count
         (λ k. bit
-        (leb
-        (cores * (getD (now (deadlines .entry)) k 0 - getD (now (budgets .entry)) k 0)
-        + min (getD (now (budgets .entry)) k 0) (getD (now (deadlines .entry)) k 0 - getD (now (budgets .entry)) k 0))
-        (getD (now (sums .entry)) k 0))) ⌝ }
+        (leb (needed cores (getD (now (budgets .entry)) k 0) (getD (now (deadlines .entry)) k 0)) (getD (now (sums .entry)) k 0))) ⌝ }
 {
     let mut urgent: u32 = 0;
     let mut k: usize = 0;

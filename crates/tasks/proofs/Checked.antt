@@ -7,7 +7,7 @@ use mathlib.Core.Bool.{Bool, true, cond, not}
 use mathlib.Core.List.{List}
 use lib.Dec.{eqb, leb, ltb}
 use lib.ListN.{getD}
-use borrow.Author.Tests.{not-false, leb-true, ltb-false, eqb-true, eqb-false}
+use borrow.Author.Tests.{not-false, leb-true, ltb-false, eqb-true}
 use Rattle.laws.proofs.CaseSplits.{by-order, by-cond}
 use Rattle.laws.proofs.Booleans.{and-left, and-right}
 use Rattle.tasks.specs.Limits.{maxTasks, maxCores}
@@ -22,7 +22,6 @@ use Rattle.tasks.specs.declared.outcome.Outcome.the-variants.{Done, Refu
 use Rattle.tasks.proofs.OutcomeLaws.{past-test, Numbered, done-numbered, refused-numbered}
 
 pub record Passes (t : Table) (m : ℕ) : Type 0 where
-  pub count-some : 1 ≤ t .count
   pub count-fits : t .count ≤ maxTasks
   pub tasks-fit : (i : ℕ) → i < t .count → inRange (getD (t .tasks) i zeroTask) ≡ true
   pub cores-some : 1 ≤ m
@@ -45,12 +44,11 @@ pub passes : (t : Table) (m : ℕ) → checked t m ≡ Done → Passes t m
 unfolding checked coresInRange
 passes t m =
     past-test _ _ _ λ few.
-    past-test _ _ _ λ some.
+    past-test (eqb (t .count) 0) _ _ λ some.
     past-test _ _ _ λ none.
     past-test _ _ _ λ cores e.
     let fit = not-false _ cores in
     record {
-      count-some = let n = eqb-false (t .count) 0 some in omega arith;
       count-fits = ltb-false _ _ few;
       tasks-fit = λ i h. none-out (t .tasks) (t .count) 0 (eqb-true _ _ (not-false _ none)) i (omega arith) (omega arith);
       cores-some = leb-true _ _ (and-left _ _ fit);

@@ -1,4 +1,4 @@
--- Refusal numbers are small. Others cite `Below`, `below-done`, `below-refused`, `below-test` and `checked-below`.
+-- Refusal numbers are small. Others cite `Below`, `below-done`, `below-refused` and `checked-below`.
 use Prim.Native.Nat.{ℕ, _≤_}
 use native.Mathlib.Omega.{arith}
 use mathlib.Core.Path.{_≡_}
@@ -22,7 +22,7 @@ pub below-refused : (b n p : ℕ) → n ≤ b → Below b (Refused n p)
 below-refused b n p h number place e = let q : n ≡ number = cc in omega arith
 
 -- a test that refuses by a small number, and what comes after it
-pub below-test : (b : ℕ) (t : Bool) (n p : ℕ) {o : Outcome} → n ≤ b → Below b o → Below b (cond t (Refused n p) o)
+below-test : (b : ℕ) (t : Bool) (n p : ℕ) {o : Outcome} → n ≤ b → Below b o → Below b (cond t (Refused n p) o)
 below-test b t n p h rest = by-cond (Below b) t (λ e. below-refused b n p h) (λ e. rest)
 
 pub checked-below : (t : Table) (m : ℕ) → Below 7 (checked t m)

@@ -1,20 +1,21 @@
 -- `first_unused` meets its contract. The invariant: the cores so far are used.
-use Prim.Native.Nat.{ℕ, _-_, _≤_, _<_}
+use Prim.Native.Nat.{ℕ, _+_, _-_, _≤_, _<_}
 use native.Mathlib.Omega.{arith}
 use mathlib.Core.Path.{_≡_, sym}
 use mathlib.Core.Bool.{true, false}
 use lib.ListN.{getD}
 use borrow.Author.Tests.{not-true, not-false}
+use Rattle.tasks.specs.Limits.{maxTasks}
 use Rattle.laws.proofs.CaseSplits.{by-equal}
 use Rattle.cores.proofs.UnusedLaws.{first-is, none-unused}
 use Rattle.cores.proofs.assign.first_unused.Statement.{statement}
 use Rattle.cores.proofs.assign.first_unused.Tie as tie
 
 abbrev Inv-loop : tie.InvT-loop
-Inv-loop available used core₀ core = (1 ≤ core) × (core ≤ 33) × ((c : ℕ) → 1 ≤ c → c < core → getD used c false ≡ true)
+Inv-loop available used core₀ core = (1 ≤ core) × (core ≤ maxTasks + 1) × ((c : ℕ) → 1 ≤ c → c < core → getD used c false ≡ true)
 
 abbrev μ-loop : tie.MeasureT-loop
-μ-loop available used core₀ core = 33 - core
+μ-loop available used core₀ core = maxTasks + 1 - core
 
 loop-holds : tie.Need-loop-holds Inv-loop μ-loop
 loop-holds c = (omega arith, omega arith, λ x some below. absurd (omega arith))

@@ -20,15 +20,15 @@ mul-left c = omega (arith, whole-fits c)
 sub-left : tie.Need-sub-left
 sub-left c = whole-fits c
 
-mul-least : tie.Need-mul-least
-mul-least c = omega (arith, budgets-fit c)
+mul-min : tie.Need-mul-min
+mul-min c = omega (arith, budgets-fit c)
 
-add-least : tie.Need-add-least
-add-least c = omega (arith, budgets-fit (c .before), c .least .ensures)
+add-min : tie.Need-add-min
+add-min c = omega (arith, budgets-fit (c .before), c .min .ensures)
 
 returns : tie.Need-returns
 unfolding interference
-returns c = c .least2 .ensures ∙ rw (c .before .least .ensures)
+returns c = c .min2 .ensures ∙ rw (c .before .min .ensures)
 
 pub divided-part-spec : {M : Type 1} → statement M
 divided-part-spec =
@@ -37,8 +37,8 @@ divided-part-spec =
     (λ c. search needs)
     mul-left
     sub-left
-    mul-least
+    mul-min
     (λ c κs. search needs)
-    add-least
+    add-min
     (λ c κs. search needs)
     returns)

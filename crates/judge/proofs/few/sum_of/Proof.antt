@@ -11,7 +11,7 @@ use Rattle.laws.specs.Sums.{sumTo, others}
 use Rattle.edzl.specs.Window.{spare, windowSum}
 use Rattle.laws.proofs.SumLaws.{others-at, others-off}
 use Rattle.judge.specs.Listed.{listed}
-use Rattle.judge.proofs.OwnPart.{partOf, ownPart}
+use Rattle.judge.specs.Parts.{partOf, ownPart}
 use Rattle.judge.proofs.few.sum_of.Statement.{statement}
 use Rattle.judge.proofs.few.sum_of.Tie as tie
 
@@ -22,7 +22,7 @@ partIn periods budgets deadlines slacks count k i = partOf (listed periods budge
 abbrev Inv-loop : tie.InvT-loop
 Inv-loop periods budgets deadlines slacks count k deadline spare sum₀ i₀ sum i =
     (i ≤ count)
-    × (sum ≡ sumTo i (others k (partIn periods budgets deadlines slacks count k)) + ownPart (getD deadlines k 0) (getD budgets k 0))
+    × (sum ≡ sumTo i (others k (partIn periods budgets deadlines slacks count k)) + ownPart (getD budgets k 0) (getD deadlines k 0))
     × (sum ≤ i * 1_000_000 + 1_000_000)
 
 abbrev μ-loop : tie.MeasureT-loop

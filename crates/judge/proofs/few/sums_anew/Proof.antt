@@ -8,14 +8,14 @@ use Rattle.laws.specs.Lists.{replaced}
 use Rattle.laws.proofs.Replaced.{replaced-more, replaced-at}
 use Rattle.edzl.specs.Window.{windowSum}
 use Rattle.judge.specs.Listed.{listed}
-use Rattle.judge.proofs.OwnPart.{ownPart}
+use Rattle.judge.specs.Parts.{ownPart}
 use Rattle.judge.proofs.few.sums_anew.Statement.{statement}
 use Rattle.judge.proofs.few.sums_anew.Tie as tie
 
 -- The sum of task k, with the own part.
 abbrev sumWith : (periods budgets deadlines slacks : List ℕ) (count k : ℕ) → ℕ
 sumWith periods budgets deadlines slacks count k =
-    windowSum (listed periods budgets deadlines count) (λ i. getD slacks i 0) k + ownPart (getD deadlines k 0) (getD budgets k 0)
+    windowSum (listed periods budgets deadlines count) (λ i. getD slacks i 0) k + ownPart (getD budgets k 0) (getD deadlines k 0)
 
 abbrev Inv-loop : tie.InvT-loop
 Inv-loop periods budgets deadlines slacks sums₀ count k₀ sums k =

@@ -1,19 +1,19 @@
 -- `last_round` meets its contract. The invariant: the arrays hold what round `made` gives, and the rounds go on if some slack changed.
-use Prim.Native.Nat.{ℕ, suc, _+_, _-_, _≤_, _<_}
+use Prim.Native.Nat.{ℕ, suc, _+_, _-_, _≤_}
 use native.Mathlib.Omega.{arith}
 use mathlib.Core.Path.{_≡_, refl, sym, ap, _∙_}
 use mathlib.Core.Logic.{_⊎_, inl, inr, ⊎-elim}
-use lib.ListN.{length, getD, replicate}
+use lib.ListN.{length, replicate}
 use Rattle.laws.proofs.Replaced.{replicate-entry}
 use Rattle.edzl.specs.TaskSet.{TaskSet}
-use Rattle.edzl.specs.Window.{spare, windowSum}
-use Rattle.edzl.specs.Slack.{ofTask, allRounds}
+use Rattle.edzl.specs.Window.{spare}
+use Rattle.edzl.specs.Slack.{allRounds}
 use Rattle.edzl.proofs.WellFormed.{WellFormed}
 use Rattle.edzl.proofs.SlackRounds.{slackAfter, slacks-fit}
 use Rattle.judge.specs.Listed.{listed}
+use Rattle.judge.specs.Parts.{ownPart, SumsWithOwn, LastSumsWithOwn}
 use Rattle.judge.proofs.Listed.{well-listed}
 use Rattle.judge.proofs.RoundsHeld.{AtRound, Computed, after-round, none-before, first-sum, first-on, next-sum, still-on, last-held}
-use Rattle.judge.proofs.OwnPart.{ownPart}
 use Rattle.judge.proofs.rounds.last_round.Statement.{statement}
 use Rattle.judge.proofs.rounds.last_round.Tie as tie
 
@@ -49,7 +49,7 @@ loop-holds c =
     let slacks = c .next-slacks .last .1 .1 .1 .0 in
     let computed : Computed set m (slackAfter set m 0) (replicate 32 0) (s .args .sums .now) slacks (c .next-slacks .result)
     = record {
-      sums-are = λ k h. s .pre .1 .1 k h ∙ ap (λ (n : ℕ). n + ownPart (set .deadline k) (set .budget k)) (first-sum set m k h);
+      sums-are = λ k h. s .pre .1 .1 k h ∙ ap (λ (n : ℕ). n + ownPart (set .budget k) (set .deadline k)) (first-sum set m k h);
       slacks-are = e .1 .0;
       changed-is = e .1 .1;
     } in (
@@ -67,10 +67,7 @@ loop-holds c =
 last-is :
     (l : tie.At-loop Inv-loop μ-loop) → (l .loop .changed ≡ 0) ⊎ (l .loop .made ≡ 64)
     → let s = l .before .before .before .before in
-    let set = tasksIn s in
-    (l .loop .made ≡ allRounds set (s .args .cores) .made)
-    × ((k : ℕ) → k < s .args .count →
-    getD (l .loop .sums) k 0 ≡ ofTask (allRounds set (s .args .cores) .sums) k + ownPart (set .deadline k) (set .budget k))
+    (l .loop .made ≡ allRounds (tasksIn s) (s .args .cores) .made) × LastSumsWithOwn (tasksIn s) (s .args .cores) (l .loop .sums)
 last-is l end =
     let s = l .before .before .before .before in
     let v = l .loop in
@@ -102,10 +99,7 @@ next-sums-requires c κs =
 sums-next : (c : tie.After-next-sums Inv-loop μ-loop) →
     let l = c .before .before .before .before .before .before in
     let s = l .before .before .before .before in
-    let set = tasksIn s in
-    (k : ℕ) → k < s .args .count →
-    getD (c .next-sums .last .1 .1 .1 .1 .1 .0) k 0
-    ≡ windowSum set (slackAfter set (s .args .cores) (suc (l .loop .made - 1))) k + ownPart (set .deadline k) (set .budget k)
+    SumsWithOwn (tasksIn s) (slackAfter (tasksIn s) (s .args .cores) (suc (l .loop .made - 1))) (c .next-sums .last .1 .1 .1 .1 .1 .0)
 sums-next c k h =
     let l = c .before .before .before .before .before .before in
     let s = l .before .before .before .before in

@@ -13,22 +13,22 @@ use Rattle.laws.proofs.Replaced.{replaced-more, replaced-at, replaced-past}
 use Rattle.laws.specs.Sums.{sumTo, bit}
 use Rattle.edzl.specs.Slack.{newSlack}
 use Rattle.laws.proofs.SumLaws.{bit-true, bit-false, bit-small, sum-same}
-use Rattle.judge.proofs.OwnPart.{ownPart}
+use Rattle.judge.specs.Parts.{spareAt, ownPart}
 use Rattle.judge.proofs.rounds.next_slacks.Statement.{statement}
 use Rattle.judge.proofs.rounds.next_slacks.Tie as tie
 use mathlib.Core.List.{List}
 
 -- The slack of task k by its sum.
-abbrev slackIs : (budgets deadlines sums : List ℕ) (cores k : ℕ) → ℕ
-slackIs budgets deadlines sums cores k =
-    newSlack cores (getD deadlines k 0 - getD budgets k 0) (getD sums k 0 - ownPart (getD deadlines k 0) (getD budgets k 0))
+abbrev slackBySum : (budgets deadlines sums : List ℕ) (cores k : ℕ) → ℕ
+slackBySum budgets deadlines sums cores k =
+    newSlack cores (spareAt budgets deadlines k) (getD sums k 0 - ownPart (getD budgets k 0) (getD deadlines k 0))
 
 abbrev Inv-loop : tie.InvT-loop
 Inv-loop budgets deadlines sums slacks₀ count cores changed₀ k₀ slacks changed k =
     (k ≤ count)
     × (length slacks ≡ 32)
-    × (slacks ≡ replaced k (slackIs budgets deadlines sums cores) slacks₀)
-    × (changed ≡ sumTo k (λ j. bit (not (eqb (getD slacks₀ j 0) (slackIs budgets deadlines sums cores j)))))
+    × (slacks ≡ replaced k (slackBySum budgets deadlines sums cores) slacks₀)
+    × (changed ≡ sumTo k (λ j. bit (not (eqb (getD slacks₀ j 0) (slackBySum budgets deadlines sums cores j)))))
     × (changed ≤ k)
 
 abbrev μ-loop : tie.MeasureT-loop
@@ -57,7 +57,7 @@ loop-again c =
     let a = l .before .args in
     let k = l .loop .k in
     let old = getD (a .slacks .now) k 0 in
-    let new = slackIs (a .budgets .now) (a .deadlines .now) (a .sums .now) (a .cores) k in
+    let new = slackBySum (a .budgets .now) (a .deadlines .now) (a .sums .now) (a .cores) k in
     let counted : c .if1 .changed ≡ l .loop .changed + bit (not (eqb old new))
     = ⊎-elim
     (λ w. omega (arith, w .1, bit-true _ (ap not (ne-eqb old new (λ e. w .0 .taken (slack-before l ∙ e ∙ sym (s .slack-of .ensures)))))))
@@ -75,7 +75,7 @@ returns c =
     let l = c .before in
     let a = l .before .args in
     let e : l .loop .k ≡ a .count = omega arith in
-    let is : (k : ℕ) → k < a .count → getD (l .loop .slacks) k 0 ≡ slackIs (a .budgets .now) (a .deadlines .now) (a .sums .now) (a .cores) k =
+    let is : (k : ℕ) → k < a .count → getD (l .loop .slacks) k 0 ≡ slackBySum (a .budgets .now) (a .deadlines .now) (a .sums .now) (a .cores) k =
     λ k h. rw (l .loop .inv .2) (replaced-at _ _ 0 (l .loop .k) k (omega arith) (omega arith))
     in (
       l .loop .inv .1,

@@ -5,7 +5,7 @@ use mathlib.Core.Path.{_≡_, refl}
 use lib.ListN.{getD, length, length-set}
 use Rattle.laws.specs.Lists.{replaced}
 use Rattle.laws.proofs.Replaced.{replaced-more, replaced-at, replaced-past}
-use Rattle.judge.proofs.OwnPart.{part}
+use Rattle.judge.specs.Parts.{part, spareAt}
 use Rattle.judge.proofs.sums.add_parts.Statement.{statement}
 use Rattle.judge.proofs.sums.add_parts.Tie as tie
 
@@ -13,7 +13,7 @@ abbrev Inv-loop : tie.InvT-loop
 Inv-loop period budget budgets deadlines sums₀ count inverse k₀ sums k =
     (k ≤ count)
     × (length sums ≡ 32)
-    × (sums ≡ replaced k (λ j. getD sums₀ j 0 + part period budget (getD deadlines j 0) (getD deadlines j 0) (getD budgets j 0)) sums₀)
+    × (sums ≡ replaced k (λ j. getD sums₀ j 0 + part period budget (getD deadlines j 0) (spareAt budgets deadlines j)) sums₀)
 
 abbrev μ-loop : tie.MeasureT-loop
 μ-loop period budget budgets deadlines sums₀ count inverse k₀ sums k = count - k

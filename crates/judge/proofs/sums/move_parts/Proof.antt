@@ -6,7 +6,7 @@ use lib.ListN.{getD, length, length-set}
 use borrow.Author.Needs.{needs}
 use Rattle.laws.specs.Lists.{replaced}
 use Rattle.laws.proofs.Replaced.{replaced-more, replaced-at, replaced-past}
-use Rattle.judge.proofs.OwnPart.{part}
+use Rattle.judge.specs.Parts.{part, spareAt}
 use Rattle.judge.proofs.sums.move_parts.Statement.{statement}
 use Rattle.judge.proofs.sums.move_parts.Tie as tie
 
@@ -18,8 +18,8 @@ Inv-loop period budget before slack budgets deadlines sums₀ count inverse k₀
     ≡ replaced k
     (λ j.
     getD sums₀ j 0
-    - part period budget (getD deadlines j 0 - before) (getD deadlines j 0) (getD budgets j 0)
-    + part period budget (getD deadlines j 0 - slack) (getD deadlines j 0) (getD budgets j 0))
+    - part period budget (getD deadlines j 0 - before) (spareAt budgets deadlines j)
+    + part period budget (getD deadlines j 0 - slack) (spareAt budgets deadlines j))
     sums₀)
 
 abbrev μ-loop : tie.MeasureT-loop
@@ -57,7 +57,7 @@ old-part : (c : tie.After-part-of Inv-loop μ-loop) →
     let a = l .before .before .args in
     let k = l .loop .k in
     c .part-of .result
-    ≡ part (a .period) (a .budget) (getD (a .deadlines .now) k 0 - a .before) (getD (a .deadlines .now) k 0) (getD (a .budgets .now) k 0)
+    ≡ part (a .period) (a .budget) (getD (a .deadlines .now) k 0 - a .before) (spareAt (a .budgets .now) (a .deadlines .now) k)
 old-part c = c .part-of .ensures ∙ rw (c .before .saturating-sub .ensures)
 
 new-part : (c : tie.After-part-of2 Inv-loop μ-loop) →
@@ -65,7 +65,7 @@ new-part : (c : tie.After-part-of2 Inv-loop μ-loop) →
     let a = l .before .before .args in
     let k = l .loop .k in
     c .part-of2 .result
-    ≡ part (a .period) (a .budget) (getD (a .deadlines .now) k 0 - a .slack) (getD (a .deadlines .now) k 0) (getD (a .budgets .now) k 0)
+    ≡ part (a .period) (a .budget) (getD (a .deadlines .now) k 0 - a .slack) (spareAt (a .budgets .now) (a .deadlines .now) k)
 new-part c = c .part-of2 .ensures ∙ rw (c .before .saturating-sub2 .ensures)
 
 sub-sums : tie.Need-sub-sums Inv-loop μ-loop

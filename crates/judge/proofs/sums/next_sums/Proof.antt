@@ -12,7 +12,8 @@ use Rattle.laws.specs.Sums.{sumTo}
 use Rattle.edzl.specs.Window.{spare}
 use Rattle.laws.proofs.SumLaws.{sum-bound}
 use Rattle.judge.specs.Listed.{listed}
-use Rattle.judge.proofs.OwnPart.{part, sum-with-own}
+use Rattle.judge.specs.Parts.{part, spareAt}
+use Rattle.judge.proofs.OwnPart.{sum-with-own}
 use Rattle.judge.proofs.Listed.{well-listed}
 use Rattle.judge.proofs.Mixed.{mixed, mixed-none, mixed-all, mixed-next, mixed-part}
 use Rattle.judge.proofs.sums.next_sums.Statement.{statement}
@@ -21,7 +22,7 @@ use Rattle.judge.proofs.sums.next_sums.Tie as tie
 -- What task j counts for in the sum of task k, with a slack.
 abbrev partWith : (periods budgets deadlines : List ℕ) (k j slack : ℕ) → ℕ
 partWith periods budgets deadlines k j slack =
-    part (getD periods j 0) (getD budgets j 0) (getD deadlines k 0 - slack) (getD deadlines k 0) (getD budgets k 0)
+    part (getD periods j 0) (getD budgets j 0) (getD deadlines k 0 - slack) (spareAt budgets deadlines k)
 
 abbrev Inv-loop : tie.InvT-loop
 Inv-loop periods budgets deadlines before slacks sums₀ count i₀ sums i =

@@ -34,14 +34,14 @@ mul-interference c = omega (arith, computed (c .before) .budgets, computed (c .b
 add-interference : tie.Need-add-interference
 add-interference c =
     let g = computed (c .before .before) in
-    omega (arith, g .budgets, g .within, c .least .ensures)
+    omega (arith, g .budgets, g .within, c .min .ensures)
 
 add-interference-2 : tie.Need-add-interference-2
 add-interference-2 c =
     let g = computed (c .before .before .before) in
     let a = c .before .before .before .args in
-    let first : c .before .least .result ≤ a .budget = omega (arith, c .before .least .ensures) in
-    let second : c .least2 .result ≤ a .budget = omega (arith, c .least2 .ensures) in
+    let first : c .before .min .result ≤ a .budget = omega (arith, c .before .min .ensures) in
+    let second : c .min2 .result ≤ a .budget = omega (arith, c .min2 .ensures) in
     omega (arith, g .budgets, g .within, first, second)
 
 returns : tie.Need-returns
@@ -52,9 +52,9 @@ returns c =
     let a = f .before .args in
     let guess = a .window * a .inverse / half in
     let result :
-    c .least3 .result
+    c .min3 .result
     ≡ min (guess * a .budget + min (a .budget) (a .window - guess * a .period) + min (a .budget) (a .window - guess * a .period - a .period)) (a .spare)
-    = c .least3 .ensures ∙ rw (e .least .ensures, d .least2 .ensures, f .saturating-sub .ensures) in
+    = c .min3 .ensures ∙ rw (e .min .ensures, d .min2 .ensures, f .saturating-sub .ensures) in
     result ∙ computed (f .before) .part-is
 
 pub part-of-spec : {M : Type 1} → statement M

@@ -12,7 +12,8 @@ use Rattle.edzl.specs.Window.{noSlack, windowSum}
 use Rattle.laws.proofs.SumLaws.{sum-bound}
 use Rattle.edzl.proofs.WindowLaws.{same-task, sum-of-same}
 use Rattle.judge.specs.Listed.{listed}
-use Rattle.judge.proofs.OwnPart.{part, ownPart, window-sum-with-own}
+use Rattle.judge.specs.Parts.{part, spareAt, ownPart}
+use Rattle.judge.proofs.OwnPart.{window-sum-with-own}
 use Rattle.judge.proofs.Listed.{well-listed}
 use Rattle.judge.proofs.sums.window_sums.Statement.{statement}
 use Rattle.judge.proofs.sums.window_sums.Tie as tie
@@ -23,7 +24,7 @@ Inv-loop periods budgets deadlines sums₀ count i₀ sums i =
     × (length sums ≡ 32)
     × ((k : ℕ) →
     k < count →
-    getD sums k 0 ≡ sumTo i (λ j. part (getD periods j 0) (getD budgets j 0) (getD deadlines k 0) (getD deadlines k 0) (getD budgets k 0)))
+    getD sums k 0 ≡ sumTo i (λ j. part (getD periods j 0) (getD budgets j 0) (getD deadlines k 0) (spareAt budgets deadlines k)))
 
 abbrev μ-loop : tie.MeasureT-loop
 μ-loop periods budgets deadlines sums₀ count i₀ sums i = count - i
@@ -40,7 +41,7 @@ returns c =
     let none : (k : ℕ) → k < a .count → windowSum set (λ i. getD (replicate 32 0) i 0) k ≡ windowSum set noSlack k =
     sum-of-same set set refl (λ i h. same-task set i) noSlack (λ i. getD (replicate 32 0) i 0) (λ i h. replicate-entry 32 i 0) 0
     in
-    (c .sums-anew .ensures .0, λ k h. c .sums-anew .ensures .1 k h ∙ ap (λ (n : ℕ). n + ownPart (getD (a .deadlines .now) k 0) (getD (a .budgets .now) k 0)) (none k h))
+    (c .sums-anew .ensures .0, λ k h. c .sums-anew .ensures .1 k h ∙ ap (λ (n : ℕ). n + ownPart (getD (a .budgets .now) k 0) (getD (a .deadlines .now) k 0)) (none k h))
 
 loop-holds : tie.Need-loop-holds Inv-loop μ-loop
 unfolding sumTo

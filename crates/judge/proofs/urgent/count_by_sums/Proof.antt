@@ -11,13 +11,13 @@ use borrow.Author.Needs.{needs}
 use borrow.Author.Tests.{le-leb, lt-leb}
 use Rattle.laws.specs.Sums.{sumTo, bit}
 use Rattle.laws.proofs.SumLaws.{bit-true, bit-false, bit-small}
-use Rattle.judge.proofs.OwnPart.{needed}
+use Rattle.judge.specs.Parts.{needed}
 use Rattle.judge.proofs.urgent.count_by_sums.Statement.{statement}
 use Rattle.judge.proofs.urgent.count_by_sums.Tie as tie
 
 abbrev Inv-loop : tie.InvT-loop
 Inv-loop budgets deadlines sums count cores urgent₀ k₀ urgent k =
-    (k ≤ count) × (urgent ≡ sumTo k (λ i. bit (leb (needed cores (getD deadlines i 0) (getD budgets i 0)) (getD sums i 0)))) × (urgent ≤ k)
+    (k ≤ count) × (urgent ≡ sumTo k (λ i. bit (leb (needed cores (getD budgets i 0) (getD deadlines i 0)) (getD sums i 0)))) × (urgent ≤ k)
 
 abbrev μ-loop : tie.MeasureT-loop
 μ-loop budgets deadlines sums count cores urgent₀ k₀ urgent k = count - k
@@ -55,7 +55,7 @@ loop-again c =
     let m = c .before .before in
     let l = m .before .before .before .before in
     let a = l .before .args in
-    let least-sum = needed (a .cores) (getD (a .deadlines .now) (l .loop .k) 0) (getD (a .budgets .now) (l .loop .k) 0) in
+    let least-sum = needed (a .cores) (getD (a .budgets .now) (l .loop .k) 0) (getD (a .deadlines .now) (l .loop .k) 0) in
     let sum = getD (a .sums .now) (l .loop .k) 0 in
     let counted : c .if1 .urgent ≡ l .loop .urgent + bit (leb least-sum sum)
     = ⊎-elim
