@@ -24,6 +24,6 @@ numbersInto digits largest l (x ∷ a) =
     cond (isNumber digits largest (field 0 l)) (decimal (field 0 l) ∷ numbersInto digits largest (after space l) a) (x ∷ a)
 
 -- what reading a line into an array answers, whether it is as many numbers as the array has entries, and the array after it
-pub record NumbersRead (digits largest : ℕ) (line array after : List ℕ) (r : Bool) : Type 0 where
+pub record FilledFromLine (digits largest : ℕ) (line array after : List ℕ) (r : Bool) : Type 0 where
   pub is : r ≡ areNumbers digits largest (length array) line
-  pub read : after ≡ numbersInto digits largest line array
+  pub filled : after ≡ numbersInto digits largest line array
