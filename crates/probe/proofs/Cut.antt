@@ -1,5 +1,5 @@
--- The program reads only the first 4,096 bytes of a text, more than a good one has: a longer text has its first bad line within them. So what is printed
--- for these bytes is what is printed for the text, `cut-same`.
+-- docs/HANDBOOK.md, "Probing one call": "what is printed for the first 4,096 bytes of a text is what is printed for the text", `cut-same`. A good text has
+-- fewer, and of a longer one the first bad line begins within these.
 use Prim.Native.Nat.{ℕ, zero, suc, _+_, _-_, _*_, _≤_, _<_}
 use native.Mathlib.Omega.{arith}
 use mathlib.Core.Path.{_≡_, refl}

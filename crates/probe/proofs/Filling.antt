@@ -1,5 +1,5 @@
 -- The entries of a machine, one line at a time. Others cite `Filling`, the state between two lines, with `fill-none` and `fill-more`, and what reading
--- answers where it stops: `no-entry` and `filled`.
+-- answers where it stops: `no-entry` and `filled`; and `fits`, that the line of an entry lies within the text.
 use Prim.Native.Nat.{ℕ, suc, _+_, _-_, _≤_, _<_}
 use native.Mathlib.Numerals.{add-one}
 use native.Mathlib.Omega.{arith}

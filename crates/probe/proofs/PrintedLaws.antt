@@ -1,4 +1,4 @@
--- What is printed for a text, by what its first line says: `no-machine` and `machine-is`.
+-- What is printed for a text, by what its first line says. Others cite `no-machine`, and `machine-is` with `MachineIs`.
 use Prim.Native.Nat.{ℕ, _+_, _≤_}
 use native.Mathlib.Omega.{arith}
 use mathlib.Core.Path.{_≡_}

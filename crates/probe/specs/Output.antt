@@ -2,6 +2,7 @@
 use Prim.Native.Nat.{ℕ, zero, suc, _+_, _*_}
 use mathlib.Core.List.{List, [], _∷_, _++_}
 use mathlib.Core.Bool.{cond}
+use lib.ListN.{length}
 use Rattle.text.specs.Output.{numbersLine}
 use Rattle.tasks.specs.Limits.{maxTasks}
 use Rattle.tasks.specs.declared.task.Task.{Task}
@@ -34,4 +35,4 @@ entriesRoom = entryRoom * maxTasks
 -- bytes that are enough for all lines of a machine: its word with the space, a count of at most 20 digits, cores of ten, a byte after either, and the
 -- lines of the entries
 abbrev pub machineRoom : ℕ
-machineRoom = 8 + (20 + 1) + (10 + 1) + entriesRoom
+machineRoom = length machineWord + (20 + 1) + (10 + 1) + entriesRoom

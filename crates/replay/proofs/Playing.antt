@@ -1,5 +1,5 @@
--- One turn over the lines of calls. Others cite `Playing`, the state between two lines, with `play-none` and `play-more`, and what the whole output
--- is where it stops: `play-all`, `not-ended` and `no-call`.
+-- One turn over the lines of calls. Others cite `answered`, the answers to a text; `Playing`, the state between two lines, with `play-none`, `play-more` and
+-- `shorter`; and what the whole output is where it stops: `play-all`, `not-ended` and `no-call`.
 use Prim.Native.Nat.{ℕ, _+_, _*_, _≤_, _<_}
 use native.Mathlib.Omega.{arith}
 use mathlib.Core.Path.{_≡_, ap, _∙_}

@@ -1,4 +1,4 @@
--- What is printed for a script, by what was found of its first line.
+-- What is printed for a script, by what was found of its first line: `first-unended`, `first-broken` and `first-read`.
 use Prim.Native.Nat.{ℕ, _≤_, _<_}
 use mathlib.Core.Path.{_≡_}
 use mathlib.Core.Bool.{false}

@@ -1,4 +1,4 @@
--- A line that is read as the numbers of an array, one field at a time. Others cite `SoFar`, the state between two fields, with `so-far-none` and
+-- An array that is filled from a line of numbers, one field at a time. Others cite `SoFar`, the state between two fields, with `so-far-none` and
 -- `so-far-more`, what the answer says of the line where the reading stops: `no-number`, `last-field` and `fields-left`, and `entry-is`, each entry of
 -- the array after a line of as many numbers.
 use Prim.Native.Nat.{ℕ, zero, suc, _+_, _-_, _≤_, _<_}

@@ -16,6 +16,7 @@ pub const MAX_DIGITS: usize = 10;
 // The largest number of a script.
 pub const MAX_NUMBER: u32 = 4_294_967_295;
 
+// The call that a line is, or that it is none.
 pub enum CallLine {
     Read(Call),
     Bad,

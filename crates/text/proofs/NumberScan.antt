@@ -1,4 +1,5 @@
--- The scan of a number's digits: its invariant `Scanned`, and whether the field is a number at each way out of the scan.
+-- The scan of a number's digits. Others cite its invariant `Scanned`, with `scanned-none` and `scanned-more`, and whether the field is a number at each way
+-- out of the scan: `no-digit` and `too-large` within it; `empty`, `long` and `leading` after it; and `complete`, with `one-digit` and `other-digit`.
 use Prim.Native.Nat.{ℕ, _+_, _-_, _*_, _≤_, _<_}
 use native.Mathlib.Numerals.{add-one}
 use native.Mathlib.Omega.{arith}

@@ -1,6 +1,6 @@
 -- Lines of so many numbers. Others cite: `no-numbers`, `first-none`, `first-only` and `first-then`, whether a line is so many numbers by its first field;
--- `are-numbers`, that a line of numbers is numbers with a space after each and one more, as `numbersOn`; `on-line` and `first-on`, of the first number of a
--- text's line; `unspaced`, and `no-line-end`, that no byte 10 is in a line of numbers.
+-- `are-numbers`, that a line of numbers is numbers with a space after each and one more, as `numbersOn`, and `are-three`; `on-line` and `first-on`, of the
+-- first number of a text's line; `unspaced`, and `no-line-end`, that no byte 10 is in a line of numbers.
 use Prim.Native.Nat.{ℕ, zero, suc, _+_}
 use native.Mathlib.Omega.{arith}
 use mathlib.Core.Path.{_≡_, refl, sym, ap, _∙_}
