@@ -1,5 +1,5 @@
 -- The search for the first byte b of a text. Others cite `Passed` with its laws: the first i bytes are no b (`passed-none`, `passed-more`), and what
--- is known at the next byte (`at-other` with `Other`, `met`), at the end of the text (`missed-count`), and at either (`stopped`).
+-- is known at the next byte (`at-other`, `met`), at the end of the text (`missed-count`), and at either (`stopped`).
 use Prim.Native.Nat.{ℕ, suc, _+_, _≤_, _<_}
 use native.Mathlib.Numerals.{add-one}
 use native.Mathlib.Omega.{arith}

@@ -1,6 +1,6 @@
--- Laws of `sameBytes` and `beginsWith`. Others cite, of two texts, `same-is` (they are equal where they are the same), `other-length`, and `differ-at`,
--- `agree-at` and `all-agree` (at a place); of a text and a word `not-longer`, `longer` and `same-begins` (it begins with the word where as many of its first
--- bytes are the same); and of a word and one more byte `other-end`, `same-end` and `whole-ended`.
+-- Laws of `sameBytes` and `beginsWith`: two texts that agree up to a place, how long they are, that texts that are the same are equal (`same-is`), that
+-- a text begins with a word where as many of its first bytes are the same (`same-begins`); and the same of a word and one more byte (`other-end`,
+-- `same-end`, `whole-ended`).
 use Prim.Native.Nat.{ℕ, suc, _+_, _≤_, _<_}
 use native.Mathlib.Numerals.{add-one}
 use native.Mathlib.Omega.{arith}
@@ -23,7 +23,7 @@ same-is (x ∷ s) [] h = absurd (false≢true h)
 same-is (x ∷ s) (y ∷ t) h =
     rw (eqb-true x y (and-left (eqb x y) (sameBytes s t) h), same-is s t (and-right (eqb x y) (sameBytes s t) h))
 
-same-length : (s t : List ℕ) → sameBytes s t ≡ true → length s ≡ length t
+pub same-length : (s t : List ℕ) → sameBytes s t ≡ true → length s ≡ length t
 same-length s t h = ap length (same-is s t h)
 
 pub other-length : (s t : List ℕ) → (length s ≡ length t → ⊥) → false ≡ sameBytes s t
