@@ -1,4 +1,5 @@
--- What verdict and sharper print of a table: document 01, "The table as text", of the window test, and request 6 (document 02, change 6) of the slack test.
+-- What verdict and sharper print of a table: of the window test document 01, "The table as text", and of the slack test docs/HANDBOOK.md, "Reading a
+-- verdict".
 use Prim.Native.Nat.{ℕ, zero, suc, min}
 use mathlib.Core.Bool.{cond}
 use mathlib.Core.List.{List, [], _∷_, _++_}
@@ -13,12 +14,12 @@ use Rattle.judge.specs.SlackJudge.{slackJudged}
 use Rattle.lines.specs.declared.Test.{Test}
 use Rattle.lines.specs.declared.Test.the-variants.{Window, Slack}
 
--- document 01: "a line of names", the bytes of "CORES COUNT ADMIT" and byte 10; request 6: "the line `CORES ROUNDS ADMIT`"
+-- document 01: "a line of names", the bytes of "CORES COUNT ADMIT" and byte 10; the handbook: "the line `CORES ROUNDS ADMIT`"
 unfoldable pub header : Test → List ℕ
 header Window = 67 ∷ 79 ∷ 82 ∷ 69 ∷ 83 ∷ 32 ∷ 67 ∷ 79 ∷ 85 ∷ 78 ∷ 84 ∷ 32 ∷ 65 ∷ 68 ∷ 77 ∷ 73 ∷ 84 ∷ 10 ∷ []
 header Slack = 67 ∷ 79 ∷ 82 ∷ 69 ∷ 83 ∷ 32 ∷ 82 ∷ 79 ∷ 85 ∷ 78 ∷ 68 ∷ 83 ∷ 32 ∷ 65 ∷ 68 ∷ 77 ∷ 73 ∷ 84 ∷ 10 ∷ []
 
--- document 01: "m, COUNT, and 1 for admitted or 0"; request 6: "m, the rounds made, and 1 or 0"
+-- document 01: "m, COUNT, and 1 for admitted or 0"; the handbook: "m, the rounds made, and 1 for admitted by the slack test or 0"
 unfoldable pub lineNumbers : Test → Table → (m : ℕ) → List ℕ
 lineNumbers Window t m = m ∷ judged t m .count ∷ cond (judged t m .admits) 1 0 ∷ []
 lineNumbers Slack t m = m ∷ slackJudged t m .rounds ∷ cond (slackJudged t m .admits) 1 0 ∷ []
@@ -33,7 +34,7 @@ verdictLines test t zero = []
 verdictLines test t (suc n) = verdictLines test t n ++ verdictLine test t (suc n)
 
 -- document 01: "a line of names, then for m = 1 up to the smaller of 16 and the number of tasks"; "A refused table prints `REFUSED`, a space and the
--- refusal number"; request 6: "a refused table prints as in `verdict`"
+-- refusal number"; the handbook: "a refused table prints as in `verdict`"
 unfoldable pub printedAfter : Test → Outcome → Table → List ℕ
 printedAfter test Done t = header test ++ verdictLines test t (min maxCores (t .count))
 printedAfter test (Refused number place) t = refusedLine number

@@ -1,11 +1,11 @@
--- "The program reads no more than it needs: a longer text has its first bad line within what it reads": what is printed for the first 4,096 bytes of
--- a text is what is printed for the text, `cut-same`.
+-- docs/HANDBOOK.md, "Probing one call": "what is printed for the first 4,096 bytes of a text is what is printed for the text", `cut-same`. A good text has
+-- fewer, and of a longer one the first bad line begins within these.
 use Prim.Native.Nat.{ℕ, zero, suc, _+_, _-_, _*_, _≤_, _<_}
 use native.Mathlib.Omega.{arith}
 use mathlib.Core.Path.{_≡_, refl}
 use mathlib.Core.Bool.{Bool, true, and-false}
 use mathlib.Core.List.{List, [], _∷_}
-use lib.ListN.{length, take, drop, length-drop}
+use lib.ListN.{length, take, length-drop}
 use Rattle.laws.proofs.CaseSplits.{by-test, by-order}
 use Rattle.laws.proofs.Booleans.{and-left, and-right}
 use Rattle.text.specs.Lines.{lineEnd, has, before, after, isEmpty}
@@ -18,11 +18,11 @@ use Rattle.machine.specs.declared.machine.Machine.{Machine}
 use Rattle.script.specs.Numbers.{maxDigits, maxNumber}
 use Rattle.script.specs.Calls.{callOf}
 use Rattle.script.specs.declared.calls.CallLine.{CallLine}
-use Rattle.script.specs.declared.calls.CallLine.the-variants as Line
-use Rattle.script.proofs.CallLaws.{call-short}
+use Rattle.script.specs.declared.calls.CallLine.the-variants as CallLine
+use Rattle.script.proofs.CallLaws.{longestCall, call-short}
 use Rattle.tasks.specs.Limits.{maxTasks}
 use Rattle.probe.specs.Words.{machineWord}
-use Rattle.probe.specs.Input.{firstIs, isMachineLine, countOf, coresOf, zeroEntries, isEntryLine, taskOf, jobOf, recordedOf, withEntry, onlyCall, lastLine}
+use Rattle.probe.specs.Input.{firstIs, isMachineLine, countOf, coresOf, zeroEntries, isEntryLine, entryTask, entryJob, entryCore, withEntry, onlyCall, lastLine}
 use Rattle.probe.specs.Printed.{printedFrom, printed}
 
 -- a first line that has at most b bytes with its byte 10 where it is what it must be
@@ -43,14 +43,20 @@ module _ (must : List ℕ → Bool) (b : ℕ) (short : (l : List ℕ) → must l
       let n = short (before lineEnd s) (and-right (has lineEnd s) (must (before lineEnd s)) t) in
       (n, taken k s (omega arith))
 
--- the first line has at most 30 bytes, and that of an entry 88
-machine-short : (l : List ℕ) → isMachineLine l ≡ true → length l + 1 ≤ 30
+-- the most bytes that the first line has with its byte 10, and the line of an entry
+abbrev machineLength : ℕ
+machineLength = length machineWord + 2 * (maxDigits + 1)
+
+abbrev entryLength : ℕ
+entryLength = 8 * (maxDigits + 1)
+
+machine-short : (l : List ℕ) → isMachineLine l ≡ true → length l + 1 ≤ machineLength
 unfolding isMachineLine
 machine-short l t =
-    let n = numbers-short maxDigits maxNumber 2 (drop 8 l) (and-right (beginsWith machineWord l) (areNumbers maxDigits maxNumber 2 (drop 8 l)) t) in
-    omega (arith, length-drop 8 l)
+    let n = numbers-short maxDigits maxNumber 2 _ (and-right (beginsWith machineWord l) _ t) in
+    omega (arith, n, length-drop (length machineWord) l)
 
-entry-short : (l : List ℕ) → isEntryLine l ≡ true → length l + 1 ≤ 88
+entry-short : (l : List ℕ) → isEntryLine l ≡ true → length l + 1 ≤ entryLength
 unfolding isEntryLine
 entry-short l t = numbers-short maxDigits maxNumber 8 l (and-left (areNumbers maxDigits maxNumber 8 l) _ t)
 
@@ -61,17 +67,21 @@ empty-same zero s h = absurd (omega arith)
 empty-same (suc j) [] h = refl
 empty-same (suc j) (x ∷ s) h = refl
 
-only-same : (c : CallLine) (j : ℕ) (s : List ℕ) → ((call : Call) → c ≡ Line.Read call → 0 < j) → onlyCall c (take j s) ≡ onlyCall c s
+only-same : (c : CallLine) (j : ℕ) (s : List ℕ) → ((call : Call) → c ≡ CallLine.Read call → 0 < j) → onlyCall c (take j s) ≡ onlyCall c s
 unfolding onlyCall
-only-same (Line.Read call) j s h = rw (empty-same j s (h call refl))
-only-same Line.Bad j s h = refl
+only-same (CallLine.Read call) j s h = rw (empty-same j s (h call refl))
+only-same CallLine.Bad j s h = refl
 
-only-none : (c : CallLine) (s t : List ℕ) → ((call : Call) → c ≡ Line.Read call → ⊥) → onlyCall c s ≡ onlyCall Line.Bad t
+only-none : (c : CallLine) (s t : List ℕ) → ((call : Call) → c ≡ CallLine.Read call → ⊥) → onlyCall c s ≡ onlyCall CallLine.Bad t
 unfolding onlyCall
-only-none (Line.Read call) s t n = absurd (n call refl)
-only-none Line.Bad s t n = refl
+only-none (CallLine.Read call) s t n = absurd (n call refl)
+only-none CallLine.Bad s t n = refl
 
-last-same : (k : ℕ) (s : List ℕ) → 39 ≤ k → lastLine (take k s) ≡ lastLine s
+-- of the last line and what follows it those of a call, its byte 10, and one byte more
+abbrev lastLength : ℕ
+lastLength = longestCall + 1 + 1
+
+last-same : (k : ℕ) (s : List ℕ) → lastLength ≤ k → lastLine (take k s) ≡ lastLine s
 unfolding lastLine onlyCall
 last-same k s h =
     let l = before lineEnd s in
@@ -83,28 +93,32 @@ last-same k s h =
     let t = taken k s m in
     rw (t .is, t .line, t .rest, only-same (callOf l) (k - (length l + 1)) (after lineEnd s) (λ call e. omega (arith, call-short l call e))))
 
-entries-same : (m : Machine) (i more k : ℕ) (s : List ℕ) → 88 * more + 39 ≤ k → printedFrom m i more (take k s) ≡ printedFrom m i more s
+entries-same : (m : Machine) (i more k : ℕ) (s : List ℕ) → entryLength * more + lastLength ≤ k → printedFrom m i more (take k s) ≡ printedFrom m i more s
 unfolding printedFrom
 entries-same m i zero k s h = rw (last-same k s (omega arith))
 entries-same m i (suc more) k s h =
     let l = before lineEnd s in
-    let same = first-same isEntryLine 88 entry-short k s (omega arith) in
+    let same = first-same isEntryLine entryLength entry-short k s (omega arith) in
     by-test (firstIs isEntryLine s)
     (λ b.
-    let (n, t) = first-taken isEntryLine 88 entry-short k s (omega arith) b in
-    rw (same, b, t .line, t .rest) (entries-same (withEntry m i (taskOf l) (jobOf l) (recordedOf l)) (suc i) more (k - (length l + 1)) (after lineEnd s) (omega arith)))
+    let (n, t) = first-taken isEntryLine entryLength entry-short k s (omega arith) b in
+    rw (same, b, t .line, t .rest) (entries-same (withEntry m i (entryTask l) (entryJob l) (entryCore l)) (suc i) more (k - (length l + 1)) (after lineEnd s) (omega arith)))
     (λ b. rw (same, b))
 
-printed-same : (k : ℕ) (s : List ℕ) → 2885 ≤ k → printed (take k s) ≡ printed s
+printed-same : (k : ℕ) (s : List ℕ) → machineLength + entryLength * maxTasks + lastLength ≤ k → printed (take k s) ≡ printed s
 unfolding printed
 printed-same k s h =
     let l = before lineEnd s in
-    let same = first-same isMachineLine 30 machine-short k s (omega arith) in
+    let same = first-same isMachineLine machineLength machine-short k s (omega arith) in
     by-test (firstIs isMachineLine s)
     (λ b.
-    let (n, t) = first-taken isMachineLine 30 machine-short k s (omega arith) b in
+    let (n, t) = first-taken isMachineLine machineLength machine-short k s (omega arith) b in
     rw (same, b, t .line, t .rest) (entries-same (zeroEntries (countOf l) (coresOf l)) 0 maxTasks (k - (length l + 1)) (after lineEnd s) (omega arith)))
     (λ b. rw (same, b))
 
-pub cut-same : (s : List ℕ) → printed (take 4096 s) ≡ printed s
-cut-same s = printed-same 4096 s (omega arith)
+-- the most bytes that the program reads: `INPUT_ROOM`, src/main.rt
+abbrev inputRoom : ℕ
+inputRoom = 4_096
+
+pub cut-same : (s : List ℕ) → printed (take inputRoom s) ≡ printed s
+cut-same s = printed-same inputRoom s (omega arith)

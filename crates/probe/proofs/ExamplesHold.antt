@@ -9,9 +9,9 @@ use Rattle.machine.specs.Machine.{coreAt}
 use Rattle.machine.proofs.Computing.{computing}
 use Rattle.script.specs.Calls.{releaseOf, callWith, callOf}
 use Rattle.script.specs.Output.{badLine, acceptedLine, outcomeLine, answerLine}
-use Rattle.probe.specs.Input.{firstIs, isMachineLine, countOf, coresOf, zeroEntries, isEntryLine, taskOf, jobOf, recordedOf, withEntry, onlyCall, lastLine}
+use Rattle.probe.specs.Input.{firstIs, isMachineLine, countOf, coresOf, zeroEntries, isEntryLine, entryTask, entryJob, entryCore, withEntry, onlyCall, lastLine}
 use Rattle.probe.specs.Output.{entryLine, entryLines, machineLines}
-use Rattle.probe.specs.Printed.{shown, printedFor, printedFrom, printed}
+use Rattle.probe.specs.Printed.{shown, printedAsked, printedFrom, printed}
 use Rattle.probe.specs.Examples.{exampleText, exampleOutput, zeroLines, closedMachine, releaseText, releaseOutput, refusedText, refusedOutput}
 
 pub example-holds : printed exampleText ≡ exampleOutput
@@ -29,7 +29,7 @@ unfolding
     isDigit allDigits leadingZero wellFormed decimalFrom decimal isNumber numberOf numberAfter digitsOf decimalText
     eachNumber areNumbers furtherNumbers numbersLine refusedLine coreAt computing
     releaseOf callWith callOf acceptedLine outcomeLine answerLine
-    firstIs isMachineLine countOf coresOf zeroEntries isEntryLine taskOf jobOf recordedOf withEntry onlyCall lastLine
-    entryLine entryLines machineLines shown printedFor printedFrom printed
+    firstIs isMachineLine countOf coresOf zeroEntries isEntryLine entryTask entryJob entryCore withEntry onlyCall lastLine
+    entryLine entryLines machineLines shown printedAsked printedFrom printed
     zeroLines closedMachine releaseText releaseOutput refusedText refusedOutput
 needs-hold = (refl, refl)

@@ -1,5 +1,5 @@
 -- The entries of a machine, one line at a time. Others cite `Filling`, the state between two lines, with `fill-none` and `fill-more`, and what reading
--- answers where it stops: `no-entry` and `filled`.
+-- answers where it stops: `no-entry` and `filled`; and `fits`, that the line of an entry lies within the text.
 use Prim.Native.Nat.{ℕ, suc, _+_, _-_, _≤_, _<_}
 use native.Mathlib.Numerals.{add-one}
 use native.Mathlib.Omega.{arith}
@@ -16,8 +16,8 @@ use Rattle.tasks.specs.Limits.{maxTasks}
 use Rattle.tasks.specs.declared.task.Task.{Task}
 use Rattle.job.specs.declared.job.Job.{Job}
 use Rattle.machine.specs.declared.machine.Machine.{Machine}
-use Rattle.probe.specs.Input.{firstIs, isEntryLine, taskOf, jobOf, recordedOf, withEntry, entryOf, lastLine}
-use Rattle.probe.specs.Printed.{printedFor, printedFrom}
+use Rattle.probe.specs.Input.{firstIs, isEntryLine, entryTask, entryJob, entryCore, withEntry, entryFrom, lastLine}
+use Rattle.probe.specs.Printed.{printedAsked, printedFrom}
 use Rattle.probe.specs.declared.input.Asked.{Asked}
 use Rattle.probe.specs.declared.input.Asked.the-variants as Asked
 use Rattle.probe.specs.declared.input.EntryLine.the-variants.{Read, Bad}
@@ -26,14 +26,14 @@ use Rattle.probe.proofs.InputLaws.{is-ended}
 -- what the line of an entry says of the text that begins with it
 record Entered (s : List ℕ) (t : Task) (j : Job) (c n : ℕ) : Type 0 where
   is : firstIs isEntryLine s ≡ true
-  task : taskOf (before lineEnd s) ≡ t
-  job : jobOf (before lineEnd s) ≡ j
-  core : recordedOf (before lineEnd s) ≡ c
+  task : entryTask (before lineEnd s) ≡ t
+  job : entryJob (before lineEnd s) ≡ j
+  core : entryCore (before lineEnd s) ≡ c
   within : n ≤ length s
   rest : after lineEnd s ≡ drop n s
 
-entered : (s : List ℕ) (t : Task) (j : Job) (c n : ℕ) → entryOf s ≡ Read t j c n → Entered s t j c n
-unfolding entryOf
+entered : (s : List ℕ) (t : Task) (j : Job) (c n : ℕ) → entryFrom s ≡ Read t j c n → Entered s t j c n
+unfolding entryFrom
 entered s t j c n =
     by-cond (λ r. r ≡ Read t j c n → Entered s t j c n) (firstIs isEntryLine s)
     (λ b e.
@@ -42,8 +42,8 @@ entered s t j c n =
     record { is = b; task = cc; job = cc; core = cc; within = omega (arith, h .within); rest = rw (← q) (sym (h .rest)) })
     (λ b e. clash cc)
 
-refused : (s : List ℕ) → entryOf s ≡ Bad → firstIs isEntryLine s ≡ false
-unfolding entryOf
+refused : (s : List ℕ) → entryFrom s ≡ Bad → firstIs isEntryLine s ≡ false
+unfolding entryFrom
 refused s = by-cond (λ r. r ≡ Bad → firstIs isEntryLine s ≡ false) (firstIs isEntryLine s) (λ b e. clash cc) (λ b e. b)
 
 -- between two lines: the first i entries were read from the first `place` bytes of the text
@@ -57,7 +57,7 @@ fill-none m s = record { few = omega arith; within = omega arith; left = refl }
 
 module _ (m : Machine) (s : List ℕ) (m' : Machine) (place i : ℕ) (p : Filling m s m' place i) where
   -- all entries were read, and the line of the call follows
-  pub filled : maxTasks ≤ i → (a : Asked) → a ≡ lastLine (from s place) → printedFrom m 0 maxTasks s ≡ printedFor m' a
+  pub filled : maxTasks ≤ i → (a : Asked) → a ≡ lastLine (from s place) → printedFrom m 0 maxTasks s ≡ printedAsked m' a
   unfolding printedFrom
   filled h a e =
       let z : maxTasks - i ≡ 0 = omega arith in
@@ -67,11 +67,11 @@ module _ (m : Machine) (s : List ℕ) (m' : Machine) (place i : ℕ) (p : Fillin
     another : maxTasks - i ≡ suc (maxTasks - (i + 1))
     another = omega arith
 
-    pub no-entry : entryOf (from s place) ≡ Bad → printedFrom m 0 maxTasks s ≡ printedFor m' (Asked.Bad (i + 2))
-    unfolding printedFrom printedFor
+    pub no-entry : entryFrom (from s place) ≡ Bad → printedFrom m 0 maxTasks s ≡ printedAsked m' (Asked.Bad (i + 2))
+    unfolding printedFrom printedAsked
     no-entry b = p .left ∙ rw (another, refused (drop place s) (rw (from-drop s place) at b))
 
-    module _ (t : Task) (j : Job) (c n : ℕ) (e : entryOf (from s place) ≡ Read t j c n) where
+    module _ (t : Task) (j : Job) (c n : ℕ) (e : entryFrom (from s place) ≡ Read t j c n) where
       entry : Entered (drop place s) t j c n
       entry = entered (drop place s) t j c n (rw (from-drop s place) at e)
 

@@ -1,5 +1,6 @@
--- What the first line of a text says, by what was found of it. Others cite `is-ended`, and, of the machine's line: `no-machine`, `no-word`, `no-pair`
--- and `machine-read`; of an entry's: `no-entry`, `no-eight`, `no-flag` and `entry-read`; of the call's: `no-line`, `no-call`, `more-follows`, `call-read`.
+-- What the first line of a text says, by what was found of it. Others cite `is-ended`, and, of the machine's line: `machine-unended`, `no-word`,
+-- `no-pair` and `machine-read`; of an entry's: `entry-unended`, `no-eight`, `no-flag` and `entry-read`; of the call's: `call-unended`, `no-call`,
+-- `more-follows` and `call-read`.
 use Prim.Native.Nat.{ℕ, _+_, _≤_, _<_}
 use native.Mathlib.Omega.{arith}
 use mathlib.Core.Path.{_≡_, sym, ap, _∙_}
@@ -16,13 +17,13 @@ use Rattle.text.specs.Number.{decimal}
 use Rattle.text.specs.Fields.{areNumbers}
 use Rattle.text.proofs.Split.{Cut, cut, hasnt-of}
 use Rattle.text.proofs.LineLaws.{no-bytes, some-bytes}
-use Rattle.script.specs.Numbers.{maxDigits, maxNumber, NumbersRead}
+use Rattle.script.specs.Numbers.{maxDigits, maxNumber, FilledFromLine}
 use Rattle.script.specs.Calls.{callOf}
-use Rattle.script.specs.declared.calls.CallLine.the-variants as Line
-use Rattle.script.proofs.NumbersRead.{entry-is}
+use Rattle.script.specs.declared.calls.CallLine.the-variants as CallLine
+use Rattle.script.proofs.FilledFromLine.{entry-is}
 use Rattle.machine.specs.declared.call.Call.{Call}
 use Rattle.probe.specs.Words.{machineWord}
-use Rattle.probe.specs.Input.{firstIs, isMachineLine, countOf, coresOf, isEntryLine, taskOf, jobOf, recordedOf, firstLine, entryOf, onlyCall, lastLine}
+use Rattle.probe.specs.Input.{firstIs, isMachineLine, countOf, coresOf, isEntryLine, entryTask, entryJob, entryCore, firstLine, entryFrom, callNumber, onlyCall, lastLine}
 use Rattle.probe.specs.declared.input.FirstLine.the-variants as First
 use Rattle.probe.specs.declared.input.EntryLine.the-variants as Entry
 use Rattle.probe.specs.declared.input.Asked.the-variants as Asked
@@ -37,17 +38,17 @@ module _ (s : List ℕ) (k : ℕ) (e : k ≡ length (before lineEnd s)) where
     unended : has lineEnd s ≡ false
     unended = hasnt-of lineEnd s (rw e at h)
 
-    pub no-machine : First.Bad ≡ firstLine s
+    pub machine-unended : First.Bad ≡ firstLine s
     unfolding firstLine firstIs
-    no-machine = rw unended
+    machine-unended = rw unended
 
-    pub no-entry : Entry.Bad ≡ entryOf s
-    unfolding entryOf firstIs
-    no-entry = rw unended
+    pub entry-unended : Entry.Bad ≡ entryFrom s
+    unfolding entryFrom firstIs
+    entry-unended = rw unended
 
-    pub no-line : Asked.Bad 34 ≡ lastLine s
+    pub call-unended : Asked.Bad callNumber ≡ lastLine s
     unfolding lastLine
-    no-line = rw unended
+    call-unended = rw unended
 
   -- it ends at k
   module _ (h : k < length s) where
@@ -59,29 +60,29 @@ module _ (s : List ℕ) (k : ℕ) (e : k ≡ length (before lineEnd s)) where
     no-word w = rw (line .is, ← line .front, w)
 
     module _ (w : beginsWith machineWord (take k s) ≡ true) where
-      pub no-pair : areNumbers maxDigits maxNumber 2 (from (take k s) 8) ≡ false → First.Bad ≡ firstLine s
+      pub no-pair : areNumbers maxDigits maxNumber 2 (from (take k s) (length machineWord)) ≡ false → First.Bad ≡ firstLine s
       unfolding firstLine firstIs isMachineLine
-      no-pair n = rw (line .is, ← line .front, w, rw (from-drop (take k s) 8) at n)
+      no-pair n = rw (line .is, ← line .front, w, rw (from-drop (take k s) (length machineWord)) at n)
 
       pub machine-read :
-          (a : List ℕ) → NumbersRead maxDigits maxNumber (from (take k s) 8) (replicate 2 0) a true
+          (a : List ℕ) → FilledFromLine maxDigits maxNumber (from (take k s) (length machineWord)) (replicate 2 0) a true
           → First.Read (getD a 0 0) (getD a 1 0) (k + 1) ≡ firstLine s
       unfolding firstLine firstIs isMachineLine countOf coresOf
       machine-read a n =
-          let f = from-drop (take k s) 8 in
-          let is = entry-is maxDigits maxNumber (from (take k s) 8) (replicate 2 0) a n in
+          let f = from-drop (take k s) (length machineWord) in
+          let is = entry-is maxDigits maxNumber (from (take k s) (length machineWord)) (replicate 2 0) a n in
           rw (line .is, ← line .front, w, ← f, ← n .is, ← is 0 (omega arith), ← is 1 (omega arith), ap length (line .front) ∙ sym e)
 
-    pub no-eight : areNumbers maxDigits maxNumber 8 (take k s) ≡ false → Entry.Bad ≡ entryOf s
-    unfolding entryOf firstIs isEntryLine
+    pub no-eight : areNumbers maxDigits maxNumber 8 (take k s) ≡ false → Entry.Bad ≡ entryFrom s
+    unfolding entryFrom firstIs isEntryLine
     no-eight n = rw (line .is, ← line .front, n)
 
-    module _ (a : List ℕ) (n : NumbersRead maxDigits maxNumber (take k s) (replicate 8 0) a true) where
+    module _ (a : List ℕ) (n : FilledFromLine maxDigits maxNumber (take k s) (replicate 8 0) a true) where
       number-at : (i : ℕ) → i < 8 → getD a i 0 ≡ decimal (field i (take k s))
       number-at i h = entry-is maxDigits maxNumber (take k s) (replicate 8 0) a n i h
 
-      pub no-flag : 1 < getD a 3 0 → Entry.Bad ≡ entryOf s
-      unfolding entryOf firstIs isEntryLine
+      pub no-flag : 1 < getD a 3 0 → Entry.Bad ≡ entryFrom s
+      unfolding entryFrom firstIs isEntryLine
       no-flag o = rw (line .is, ← line .front, ← n .is, ← number-at 3 (omega arith), lt-leb (getD a 3 0) 1 o)
 
       pub entry-read :
@@ -90,19 +91,19 @@ module _ (s : List ℕ) (k : ℕ) (e : k ≡ length (before lineEnd s)) where
           (record { «open» = eqb (getD a 3 0) 1; left = getD a 4 0; budget = getD a 5 0; gap = getD a 6 0 })
           (getD a 7 0)
           (k + 1)
-          ≡ entryOf s
-      unfolding entryOf firstIs isEntryLine taskOf jobOf recordedOf
+          ≡ entryFrom s
+      unfolding entryFrom firstIs isEntryLine entryTask entryJob entryCore
       entry-read o =
           let is = number-at in
           rw (line .is, ← line .front, ← n .is, ← is 3 (omega arith), le-leb (getD a 3 0) 1 o, ap length (line .front) ∙ sym e)
           (rw (← is 0 (omega arith), ← is 1 (omega arith), ← is 2 (omega arith), ← is 4 (omega arith), ← is 5 (omega arith), ← is 6 (omega arith), ← is 7 (omega arith)))
 
-    pub no-call : callOf (take k s) ≡ Line.Bad → Asked.Bad 34 ≡ lastLine s
+    pub no-call : callOf (take k s) ≡ CallLine.Bad → Asked.Bad callNumber ≡ lastLine s
     unfolding lastLine onlyCall
     no-call c = rw (line .is, ← line .front, c)
 
-    module _ (call : Call) (c : callOf (take k s) ≡ Line.Read call) where
-      pub more-follows : k + 1 < length s → Asked.Bad 35 ≡ lastLine s
+    module _ (call : Call) (c : callOf (take k s) ≡ CallLine.Read call) where
+      pub more-follows : k + 1 < length s → Asked.Bad (callNumber + 1) ≡ lastLine s
       unfolding lastLine onlyCall
       more-follows m = rw (line .is, ← line .front, c, ← line .rest, some-bytes (past s k) (omega (arith, from-length s (k + 1))))
 

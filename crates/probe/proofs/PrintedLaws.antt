@@ -1,4 +1,4 @@
--- What is printed for a text, by what its first line says: `no-machine` and `machine-is`.
+-- What is printed for a text, by what its first line says. Others cite `no-machine`, and `machine-is` with `MachineIs`.
 use Prim.Native.Nat.{ℕ, _+_, _≤_}
 use native.Mathlib.Omega.{arith}
 use mathlib.Core.Path.{_≡_}
@@ -11,16 +11,16 @@ use Rattle.text.proofs.Split.{here}
 use Rattle.tasks.specs.Limits.{maxTasks}
 use Rattle.machine.specs.declared.machine.Machine.{Machine}
 use Rattle.probe.specs.Input.{firstIs, isMachineLine, countOf, coresOf, zeroEntries, firstLine}
-use Rattle.probe.specs.Printed.{printedFor, printedFrom, printed}
+use Rattle.probe.specs.Printed.{printedAsked, printedFrom, printed}
 use Rattle.probe.specs.declared.input.FirstLine.the-variants as First
 use Rattle.probe.specs.declared.input.Asked.the-variants.{Bad}
 use Rattle.probe.proofs.InputLaws.{is-ended}
 
 module _ (s : List ℕ) where
-  pub no-machine : (m : Machine) → firstLine s ≡ First.Bad → printed s ≡ printedFor m (Bad 1)
-  unfolding printed firstLine printedFor
+  pub no-machine : (m : Machine) → firstLine s ≡ First.Bad → printed s ≡ printedAsked m (Bad 1)
+  unfolding printed firstLine printedAsked
   no-machine m =
-      by-cond (λ r. r ≡ First.Bad → printed s ≡ printedFor m (Bad 1)) (firstIs isMachineLine s) (λ b e. clash cc) (λ b e. rw b)
+      by-cond (λ r. r ≡ First.Bad → printed s ≡ printedAsked m (Bad 1)) (firstIs isMachineLine s) (λ b e. clash cc) (λ b e. rw b)
 
   -- the first line has n bytes, and the text goes on after them
   pub record MachineIs (count cores n : ℕ) : Type 0 where

@@ -1,5 +1,5 @@
--- The lines of a machine: how long they are, and what they are put together from. Others cite `line-then` (one text after another); `entry-few`;
--- `Showing`, the state between two entries, with `show-none`, `show-more` and `show-all`; and `machine-put`.
+-- The lines of a machine: how long they are, and what they are put together from. Others cite `entry-few`; `Showing`, the
+-- state between two entries, with `show-none`, `show-more` and `show-all`; and `machine-put`.
 use Prim.Native.Nat.{ℕ, suc, _+_, _-_, _*_, _^_, _≤_, _<_}
 use native.Mathlib.Numerals.{add-one}
 use native.Mathlib.Omega.{arith}
@@ -16,14 +16,9 @@ use Rattle.tasks.specs.declared.task.Task.{Task}
 use Rattle.job.specs.declared.job.Job.{Job}
 use Rattle.machine.specs.Machine.{taskAt, jobAt, coreAt}
 use Rattle.machine.specs.declared.machine.Machine.{Machine}
-use Rattle.script.specs.Output.{Line}
+use Rattle.script.specs.Output.{PutWithin}
 use Rattle.probe.specs.Words.{machineWord}
 use Rattle.probe.specs.Output.{entryLine, entryLines, machineLines, entryRoom, entriesRoom, machineRoom}
-
-pub line-then :
-    (p q : ℕ) (a b c s t : List ℕ) (u v w : ℕ) → Line p a u s b v → Line q b v t c w → Line (p + q) a u (s ++ t) c w
-line-then p q a b c s t u v w x y =
-    record { put = put-then a u s b v (x .put) t c w (y .put); few = simp length-append (omega (arith, x .few, y .few)) }
 
 -- a number of 32 bits has at most ten digits, and a flag one
 digits : (n : ℕ) → n < 2 ^ 32 → length (decimalText n) ≤ 10
@@ -61,7 +56,7 @@ show-none a u m = record { within = omega arith; left = partly-none a u (entryLi
 
 module _ (a : List ℕ) (u : ℕ) (m : Machine) (b : List ℕ) (v i : ℕ) (p : Showing a u m b v i) where
   pub show-more :
-      i < maxTasks → (c : List ℕ) (w : ℕ) → Line entryRoom b v (entryLine (taskAt m i) (jobAt m i) (coreAt m i)) c w → Showing a u m c w (i + 1)
+      i < maxTasks → (c : List ℕ) (w : ℕ) → PutWithin entryRoom b v (entryLine (taskAt m i) (jobAt m i) (coreAt m i)) c w → Showing a u m c w (i + 1)
   show-more h c w l =
       let z : maxTasks - i ≡ suc (maxTasks - (i + 1)) = omega arith in
       let next : entryLines m i (maxTasks - i) ≡ entryLine (taskAt m i) (jobAt m i) (coreAt m i) ++ entryLines m (i + 1) (maxTasks - (i + 1)) =
@@ -74,7 +69,7 @@ module _ (a : List ℕ) (u : ℕ) (m : Machine) (b : List ℕ) (v i : ℕ) (p : 
         few = omega (arith, p .few, l .few, lengths);
       }
 
-  pub show-all : maxTasks ≤ i → Line entriesRoom a u (entryLines m 0 maxTasks) b v
+  pub show-all : maxTasks ≤ i → PutWithin entriesRoom a u (entryLines m 0 maxTasks) b v
   show-all h =
       let z : maxTasks - i ≡ 0 = omega arith in
       let e : entryLines m i (maxTasks - i) ≡ [] = rw z (no-entries m i) in
@@ -84,7 +79,7 @@ module _ (a : List ℕ) (u : ℕ) (m : Machine) (b : List ℕ) (v i : ℕ) (p : 
 module _ (a b c d : List ℕ) (u v w x : ℕ) (m : Machine) where
   pub machine-put :
       m .table .count < 2 ^ 64 → m .cores < 2 ^ 32 → Put a u machineWord b v → Put b v (numbersLine (m .table .count ∷ m .cores ∷ [])) c w
-      → Line entriesRoom c w (entryLines m 0 maxTasks) d x → Line machineRoom a u (machineLines m) d x
+      → PutWithin entriesRoom c w (entryLines m 0 maxTasks) d x → PutWithin machineRoom a u (machineLines m) d x
   unfolding machineLines numbersLine furtherNumbers
   machine-put h k p q l =
       let n = numbersLine (m .table .count ∷ m .cores ∷ []) in

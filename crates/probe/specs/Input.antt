@@ -18,7 +18,7 @@ use Rattle.machine.specs.declared.machine.Machine.{Machine}
 use Rattle.script.specs.Numbers.{maxDigits, maxNumber}
 use Rattle.script.specs.Calls.{callOf}
 use Rattle.script.specs.declared.calls.CallLine.{CallLine}
-use Rattle.script.specs.declared.calls.CallLine.the-variants as Line
+use Rattle.script.specs.declared.calls.CallLine.the-variants as CallLine
 use Rattle.probe.specs.Words.{machineWord}
 use Rattle.probe.specs.declared.input.FirstLine.{FirstLine}
 use Rattle.probe.specs.declared.input.FirstLine.the-variants as First
@@ -35,10 +35,11 @@ firstIs must s = has lineEnd s && must (before lineEnd s)
 unfoldable pub isMachineLine : List ℕ → Bool
 isMachineLine l = beginsWith machineWord l && areNumbers maxDigits maxNumber 2 (drop (length machineWord) l)
 
--- the count and the cores of such a line
+-- the count of such a line
 unfoldable pub countOf : List ℕ → ℕ
 countOf l = decimal (field 0 (drop (length machineWord) l))
 
+-- the cores of such a line
 unfoldable pub coresOf : List ℕ → ℕ
 coresOf l = decimal (field 1 (drop (length machineWord) l))
 
@@ -56,16 +57,18 @@ zeroEntries count cores =
 unfoldable pub isEntryLine : List ℕ → Bool
 isEntryLine l = areNumbers maxDigits maxNumber 8 l && leb (decimal (field 3 l)) 1
 
--- the task of such a line, its job: "OWED the budget still owed", and its core: "CORE the recorded core"
-unfoldable pub taskOf : List ℕ → Task
-taskOf l = record { period = decimal (field 0 l); budget = decimal (field 1 l); deadline = decimal (field 2 l) }
+-- the task of such a line
+unfoldable pub entryTask : List ℕ → Task
+entryTask l = record { period = decimal (field 0 l); budget = decimal (field 1 l); deadline = decimal (field 2 l) }
 
-unfoldable pub jobOf : List ℕ → Job
-jobOf l =
+-- the job of such a line: "OWED the budget still owed"
+unfoldable pub entryJob : List ℕ → Job
+entryJob l =
     record { «open» = eqb (decimal (field 3 l)) 1; left = decimal (field 4 l); budget = decimal (field 5 l); gap = decimal (field 6 l) }
 
-unfoldable pub recordedOf : List ℕ → ℕ
-recordedOf l = decimal (field 7 l)
+-- the core of such a line: "CORE the recorded core"
+unfoldable pub entryCore : List ℕ → ℕ
+entryCore l = decimal (field 7 l)
 
 -- a machine with another task, job and core at an index: the lines are "one for each entry of the machine"
 unfoldable pub withEntry : Machine → ℕ → Task → Job → (core : ℕ) → Machine
@@ -77,20 +80,24 @@ withEntry m i t j core =
       assigned = set (m .assigned) i core;
     }
 
--- for the contracts of two private functions: what the first line of a text says, as the machine's and as an entry's, and how many bytes it has with its
--- byte 10
+-- for the contract of a private function: what the first line of a text says as the machine's, and how many bytes it has with its byte 10
 unfoldable pub firstLine : List ℕ → FirstLine
 firstLine s =
     let l = before lineEnd s in cond (firstIs isMachineLine s) (First.Read (countOf l) (coresOf l) (length l + 1)) First.Bad
 
-unfoldable pub entryOf : List ℕ → EntryLine
-entryOf s = let l = before lineEnd s in cond (firstIs isEntryLine s) (Entry.Read (taskOf l) (jobOf l) (recordedOf l) (length l + 1)) Entry.Bad
+-- for the contract of another: what the first line of a text says as an entry's, and how many bytes it has with its byte 10
+unfoldable pub entryFrom : List ℕ → EntryLine
+entryFrom s = let l = before lineEnd s in cond (firstIs isEntryLine s) (Entry.Read (entryTask l) (entryJob l) (entryCore l) (length l + 1)) Entry.Bad
 
--- the call of line 34, after which nothing may follow: "after 34 good lines anything that follows is line 35"
+-- the number of the call's line, which is the last: the line of the machine and one for each entry stand before it
+abbrev pub callNumber : ℕ
+callNumber = 1 + maxTasks + 1
+
+-- the call of the last line, after which nothing may follow: "after 34 good lines anything that follows is line 35"
 unfoldable pub onlyCall : CallLine → (following : List ℕ) → Asked
-onlyCall (Line.Read call) following = cond (isEmpty following) (Asked.Read call) (Asked.Bad 35)
-onlyCall Line.Bad following = Asked.Bad 34
+onlyCall (CallLine.Read call) following = cond (isEmpty following) (Asked.Read call) (Asked.Bad (callNumber + 1))
+onlyCall CallLine.Bad following = Asked.Bad callNumber
 
--- the same of a text that begins with line 34: it is bad too where it "is not ended, or is missing"
+-- the same of a text that begins with the last line: it is bad too where it "is not ended, or is missing"
 unfoldable pub lastLine : List ℕ → Asked
-lastLine s = cond (has lineEnd s) (onlyCall (callOf (before lineEnd s)) (after lineEnd s)) (Asked.Bad 34)
+lastLine s = cond (has lineEnd s) (onlyCall (callOf (before lineEnd s)) (after lineEnd s)) (Asked.Bad callNumber)

@@ -1,7 +1,8 @@
 -- The lines of a machine (docs/HANDBOOK.md, "Probing one call"): "`MACHINE count cores` and 32 lines of eight numbers".
-use Prim.Native.Nat.{ℕ, zero, suc}
+use Prim.Native.Nat.{ℕ, zero, suc, _+_, _*_}
 use mathlib.Core.List.{List, [], _∷_, _++_}
 use mathlib.Core.Bool.{cond}
+use lib.ListN.{length}
 use Rattle.text.specs.Output.{numbersLine}
 use Rattle.tasks.specs.Limits.{maxTasks}
 use Rattle.tasks.specs.declared.task.Task.{Task}
@@ -25,12 +26,13 @@ machineLines m = machineWord ++ numbersLine (m .table .count ∷ m .cores ∷ []
 
 -- bytes that are enough for the line of an entry: eight numbers of ten digits, and a byte after each
 abbrev pub entryRoom : ℕ
-entryRoom = 88
+entryRoom = 8 * (10 + 1)
 
--- for those of all 32 entries
+-- bytes that are enough for the lines of all entries
 abbrev pub entriesRoom : ℕ
-entriesRoom = 2816
+entriesRoom = entryRoom * maxTasks
 
--- for all lines of a machine: 40 more for the first, its word with the space, a count of at most 20 digits, cores of ten, and a byte after either
+-- bytes that are enough for all lines of a machine: its word with the space, a count of at most 20 digits, cores of ten, a byte after either, and the
+-- lines of the entries
 abbrev pub machineRoom : ℕ
-machineRoom = 2856
+machineRoom = length machineWord + (20 + 1) + (10 + 1) + entriesRoom

@@ -7,9 +7,9 @@ use Rattle.tasks.specs.Limits.{maxTasks}
 use Rattle.machine.specs.Calls.{step}
 use Rattle.machine.specs.declared.machine.Machine.{Machine}
 use Rattle.machine.specs.declared.call.Call.{Call}
-use Rattle.script.specs.Output.{badLine, answerLine}
-use Rattle.probe.specs.Input.{firstIs, isMachineLine, countOf, coresOf, zeroEntries, isEntryLine, taskOf, jobOf, recordedOf, withEntry, lastLine}
-use Rattle.probe.specs.Output.{machineLines}
+use Rattle.script.specs.Output.{badLine, answerLine, answerRoom}
+use Rattle.probe.specs.Input.{firstIs, isMachineLine, countOf, coresOf, zeroEntries, isEntryLine, entryTask, entryJob, entryCore, withEntry, lastLine}
+use Rattle.probe.specs.Output.{machineLines, machineRoom}
 use Rattle.probe.specs.declared.input.Asked.{Asked}
 use Rattle.probe.specs.declared.input.Asked.the-variants.{Read, Bad}
 
@@ -18,16 +18,16 @@ unfoldable pub shown : Machine → Call → List ℕ
 shown m call = answerLine call (step m call) ++ machineLines (step m call .machine)
 
 -- what is printed once the machine is read, by the call's line: "Anything else prints `BAD LINE n` alone"
-unfoldable pub printedFor : Machine → Asked → List ℕ
-printedFor m (Read call) = shown m call
-printedFor m (Bad n) = badLine n
+unfoldable pub printedAsked : Machine → Asked → List ℕ
+printedAsked m (Read call) = shown m call
+printedAsked m (Bad n) = badLine n
 
 -- what is printed where so many entries of the machine, from the index i on, are still to be read from a text, whose first line has the number i + 2
 unfoldable pub printedFrom : Machine → (i more : ℕ) → List ℕ → List ℕ
-printedFrom m i zero s = printedFor m (lastLine s)
+printedFrom m i zero s = printedAsked m (lastLine s)
 printedFrom m i (suc more) s =
     let l = before lineEnd s in
-    cond (firstIs isEntryLine s) (printedFrom (withEntry m i (taskOf l) (jobOf l) (recordedOf l)) (suc i) more (after lineEnd s)) (badLine (i + 2))
+    cond (firstIs isEntryLine s) (printedFrom (withEntry m i (entryTask l) (entryJob l) (entryCore l)) (suc i) more (after lineEnd s)) (badLine (i + 2))
 
 -- what is printed for a text: "n, counted from 1, is the first line that is not what it must be, is not ended, or is missing"
 unfoldable pub printed : List ℕ → List ℕ
@@ -35,6 +35,6 @@ printed s =
     let l = before lineEnd s in
     cond (firstIs isMachineLine s) (printedFrom (zeroEntries (countOf l) (coresOf l)) 0 maxTasks (after lineEnd s)) (badLine 1)
 
--- bytes that are enough for it: 92 for the line of an answer, and those for a machine's lines
+-- bytes that are enough for what is printed: those for the line of an answer and for a machine's lines
 abbrev pub room : ℕ
-room = 2948
+room = answerRoom + machineRoom

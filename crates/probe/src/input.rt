@@ -7,7 +7,7 @@ use script::calls::CallLine;
 use script::calls::MAX_DIGITS;
 use script::calls::MAX_NUMBER;
 use script::calls::call_line;
-use script::numbers::read_numbers;
+use script::numbers::fill_from_line;
 use tasks::limits::MAX_TASKS;
 use tasks::table::Table;
 use tasks::task::Task;
@@ -15,8 +15,11 @@ use text::bytes;
 ghost use Prim.Native.Nat.{_<_};
 ghost use mathlib.Core.Path.{_≡_};
 ghost use Rattle.tasks.specs.Limits.{maxTasks};
-ghost use Rattle.probe.specs.Input.{firstLine, zeroEntries, entryOf, withEntry, lastLine};
-ghost use Rattle.probe.specs.Printed.{printedFor, printedFrom, printed};
+ghost use Rattle.probe.specs.Input.{firstLine, zeroEntries, entryFrom, withEntry, lastLine};
+ghost use Rattle.probe.specs.Printed.{printedAsked, printedFrom, printed};
+
+// The number of the call's line, which is the last: the line of the machine and one for each entry stand before it.
+const CALL_NUMBER: usize = 1 + MAX_TASKS + 1;
 
 // The line of the count and the cores.
 enum FirstLine {
@@ -60,11 +63,12 @@ fn first_line(text: &[u8]) -> FirstLine
         return FirstLine::Bad;
     }
     let line = &text[..length];
-    if !bytes::begins_with(line, b"MACHINE ") {
+    let word = b"MACHINE ";
+    if !bytes::begins_with(line, word) {
         return FirstLine::Bad;
     }
     let mut numbers = [0u32; 2];
-    if !read_numbers(&line[8..], &mut numbers, MAX_DIGITS, MAX_NUMBER) {
+    if !fill_from_line(&line[word.len()..], &mut numbers, MAX_DIGITS, MAX_NUMBER) {
         return FirstLine::Bad;
     }
     FirstLine::Read {
@@ -91,14 +95,14 @@ fn zero_entries(count: u32, cores: u32) -> Machine
 
 // A task, its job and its recorded core.
 fn entry_line(text: &[u8]) -> EntryLine
-    ensures { λ r. ⌜ r ≡ entryOf (now (text .entry)) ⌝ }
+    ensures { λ r. ⌜ r ≡ entryFrom (now (text .entry)) ⌝ }
 {
     let length = bytes::find(text, b'\n');
     if text.len() <= length {
         return EntryLine::Bad;
     }
     let mut numbers = [0u32; 8];
-    if !read_numbers(&text[..length], &mut numbers, MAX_DIGITS, MAX_NUMBER) {
+    if !fill_from_line(&text[..length], &mut numbers, MAX_DIGITS, MAX_NUMBER) {
         return EntryLine::Bad;
     }
     if 1 < numbers[3] {
@@ -140,20 +144,20 @@ fn last_line(text: &[u8]) -> Asked
 {
     let length = bytes::find(text, b'\n');
     if text.len() <= length {
-        return Asked::Bad(34);
+        return Asked::Bad(CALL_NUMBER);
     }
     let CallLine::Read(call) = call_line(&text[..length]) else {
-        return Asked::Bad(34);
+        return Asked::Bad(CALL_NUMBER);
     };
     if length + 1 < text.len() {
-        return Asked::Bad(35);
+        return Asked::Bad(CALL_NUMBER + 1);
     }
     Asked::Read(call)
 }
 
 // Reads the lines after the first: the entries of the machine, and the call.
 fn read_entries(text: &[u8], mut machine: Machine) -> Input
-    ensures { λ r. ⌜ printedFrom machine 0 maxTasks (now (text .entry)) ≡ printedFor (r .machine) (r .asked) ⌝ }
+    ensures { λ r. ⌜ printedFrom machine 0 maxTasks (now (text .entry)) ≡ printedAsked (r .machine) (r .asked) ⌝ }
 {
     let mut at: usize = 0;
     let mut i: usize = 0;
@@ -180,7 +184,7 @@ fn read_entries(text: &[u8], mut machine: Machine) -> Input
 
 // Reads a text.
 pub fn read(text: &[u8]) -> Input
-    ensures { λ r. ⌜ printed (now (text .entry)) ≡ printedFor (r .machine) (r .asked) ⌝ }
+    ensures { λ r. ⌜ printed (now (text .entry)) ≡ printedAsked (r .machine) (r .asked) ⌝ }
 {
     let FirstLine::Read {
         count,

@@ -1,7 +1,9 @@
 // Probes one call: makes it on the machine of the input, and prints its answer and the machine after it.
 use crate::input::Asked;
+use crate::output::MACHINE_ROOM;
 use machine::call::Call;
 use machine::machine::Machine;
+use script::output::ANSWER_ROOM;
 use script::output::put_answer;
 use script::output::put_bad_line;
 
@@ -11,19 +13,19 @@ mod output;
 ghost use Prim.Native.Nat.{_≤_};
 ghost use lib.ListN.{length};
 ghost use Rattle.text.specs.Output.{Holds};
-ghost use Rattle.script.specs.Output.{Line};
+ghost use Rattle.script.specs.Output.{PutWithin};
 ghost use Rattle.probe.specs.Printed.{shown, printed, room};
 
 // More bytes than a good text has: at most 30 of its first line, 79 of each entry's and 38 of the call's, 2,596 in all. What is printed for a longer
 // text is what is printed for its first bytes (proofs/Cut.antt).
 const INPUT_ROOM: usize = 4_096;
 
-// In contracts `room`: 92 bytes for the answer, 40 for the line MACHINE, and 88 for each of 32 entries.
-const OUTPUT_ROOM: usize = 2_948;
+// Room for what is printed, in contracts `room`.
+const OUTPUT_ROOM: usize = ANSWER_ROOM + MACHINE_ROOM;
 
 // Makes a call: puts its answer and the machine after it.
 fn make(machine: Machine, call: Call, output: &mut [u8]) -> usize
-    ensures { λ r. ⌜ Line room (now (output .entry)) 0 (shown machine call) (now (output .exit)) r ⌝ }
+    ensures { λ r. ⌜ PutWithin room (now (output .entry)) 0 (shown machine call) (now (output .exit)) r ⌝ }
 {
     let answer = machine.step(call);
     let used = put_answer(output, 0, call, answer);

@@ -6,12 +6,19 @@ use tasks::task::Task;
 use text::output::put;
 use text::output::put_numbers;
 ghost use Rattle.tasks.specs.Limits.{maxTasks};
-ghost use Rattle.script.specs.Output.{Line};
+ghost use Rattle.script.specs.Output.{PutWithin};
 ghost use Rattle.probe.specs.Output.{entryLine, entryLines, machineLines, entryRoom, entriesRoom, machineRoom};
+
+// Room for the line of an entry, in contracts `entryRoom`: eight numbers of ten digits, and a byte after each.
+const ENTRY_ROOM: usize = 8 * (10 + 1);
+
+// Room for the lines of a machine, in contracts `machineRoom`: the word MACHINE with its space, a count of at most 20 digits, cores of ten, a byte after
+// either, and the lines of the entries.
+pub const MACHINE_ROOM: usize = 8 + (20 + 1) + (10 + 1) + ENTRY_ROOM * MAX_TASKS;
 
 // The eight numbers of an entry.
 fn put_entry(output: &mut [u8], used: usize, task: Task, job: Job, core: u32) -> usize
-    ensures { λ r. ⌜ Line entryRoom (now (output .entry)) used (entryLine task job core) (now (output .exit)) r ⌝ }
+    ensures { λ r. ⌜ PutWithin entryRoom (now (output .entry)) used (entryLine task job core) (now (output .exit)) r ⌝ }
 {
     let numbers = [
         task.period as u64,
@@ -28,7 +35,7 @@ fn put_entry(output: &mut [u8], used: usize, task: Task, job: Job, core: u32) ->
 
 // All entries, those past the count too.
 fn put_entries(output: &mut [u8], used: usize, machine: Machine) -> usize
-    ensures { λ r. ⌜ Line entriesRoom (now (output .entry)) used (entryLines machine 0 maxTasks) (now (output .exit)) r ⌝ }
+    ensures { λ r. ⌜ PutWithin entriesRoom (now (output .entry)) used (entryLines machine 0 maxTasks) (now (output .exit)) r ⌝ }
 {
     let table = machine.table;
     let mut at = used;
@@ -43,9 +50,9 @@ fn put_entries(output: &mut [u8], used: usize, machine: Machine) -> usize
     at
 }
 
-// The 33 lines of a machine.
+// All lines of a machine.
 pub fn put_machine(output: &mut [u8], used: usize, machine: Machine) -> usize
-    ensures { λ r. ⌜ Line machineRoom (now (output .entry)) used (machineLines machine) (now (output .exit)) r ⌝ }
+    ensures { λ r. ⌜ PutWithin machineRoom (now (output .entry)) used (machineLines machine) (now (output .exit)) r ⌝ }
 {
     let at = put(output, used, b"MACHINE ");
     let numbers = [machine.table.count as u64, machine.cores as u64];

@@ -1,4 +1,6 @@
--- The search for the line CALLS. Others cite `Looking` with its laws, for the loop, and `found-within`, which says where the line is found.
+-- The search for the line CALLS. Others cite `Looking`, the state between two lines, with `looking-none` and `looking-more`; what the search gives where
+-- it stops: `looked-all`, `not-ended` and `looked-here`; `line-fits`, that a line lies within the text; and `found-within` with `Within`, where the line is
+-- found.
 use Prim.Native.Nat.{ℕ, _+_, _≤_, _<_}
 use native.Mathlib.Omega.{arith}
 use mathlib.Core.Path.{_≡_, refl, sym, ap, _∙_}

@@ -1,5 +1,5 @@
--- One turn over the lines of calls. Others cite `Playing`, the state between two lines, with `play-none` and `play-more`, and what the whole output
--- is where it stops: `play-all`, `not-ended` and `no-call`.
+-- One turn over the lines of calls. Others cite `answered`, the answers to a text; `Playing`, the state between two lines, with `play-none`, `play-more` and
+-- `shorter`; and what the whole output is where it stops: `play-all`, `not-ended` and `no-call`.
 use Prim.Native.Nat.{ℕ, _+_, _*_, _≤_, _<_}
 use native.Mathlib.Omega.{arith}
 use mathlib.Core.Path.{_≡_, ap, _∙_}
@@ -18,14 +18,14 @@ use Rattle.machine.specs.declared.machine.Machine.{Machine}
 use Rattle.machine.specs.declared.call.Call.{Call}
 use Rattle.script.specs.declared.calls.CallLine.the-variants.{Read, Bad}
 use Rattle.script.specs.Calls.{callOf}
-use Rattle.script.specs.Output.{Line, badLine, answerLine, refusalRoom}
+use Rattle.script.specs.Output.{PutWithin, badLine, answerLine, refusalRoom}
 use Rattle.script.proofs.CallLaws.{call-long}
 use Rattle.script.proofs.FewBytes.{few-bytes}
-use Rattle.replay.specs.Script.{onCall, answers, callRoom}
+use Rattle.replay.specs.Script.{onCall, answerLines, callRoom}
 
 -- the answers to the calls of a text
 abbrev pub answered : Machine → ℕ → List ℕ → List ℕ
-answered m n s = answers m n (lines s) (unended s)
+answered m n s = answerLines m n (lines s) (unended s)
 
 -- between two lines: the answers to the rest s of the text are still to come, and those before them are short enough for the text before it
 pub record Playing (a whole b : List ℕ) (v : ℕ) (m : Machine) (n : ℕ) (s : List ℕ) (most : ℕ) : Type 0 where
@@ -36,26 +36,26 @@ pub play-none : (a : List ℕ) (m : Machine) (n : ℕ) (s : List ℕ) → Playin
 play-none a m n s = record { left = partly-none a 0 (answered m n s); few = omega arith }
 
 module _ (a whole b : List ℕ) (v : ℕ) (m : Machine) (n : ℕ) (s : List ℕ) (most : ℕ) (p : Playing a whole b v m n s most) where
-  pub play-all : length s ≤ 0 → Line (most + refusalRoom) a 0 whole b v
-  unfolding answers lines unended isEmpty
+  pub play-all : length s ≤ 0 → PutWithin (most + refusalRoom) a 0 whole b v
+  unfolding answerLines lines unended isEmpty
   play-all h =
       let e : answered m n s ≡ [] = rw (empty s h) in
       record { put = partly-all a 0 whole b v (rw e at (p .left)); few = omega (arith, ap length e, p .few) }
 
   -- a line that is no call, after which the array has its line
-  module _ (c : List ℕ) (w : ℕ) (g : Line refusalRoom b v (badLine n) c w) where
-    stopped : answered m n s ≡ badLine n → Line (most + refusalRoom) a 0 whole c w
+  module _ (c : List ℕ) (w : ℕ) (g : PutWithin refusalRoom b v (badLine n) c w) where
+    stopped : answered m n s ≡ badLine n → PutWithin (most + refusalRoom) a 0 whole c w
     stopped e =
         record { put = partly-last a 0 whole b v (badLine n) (rw e at (p .left)) c w (g .put); few = omega (arith, ap length e, p .few, g .few) }
 
-    pub not-ended : (k : ℕ) → k ≡ length (before lineEnd s) → 0 < length s → length s ≤ k → Line (most + refusalRoom) a 0 whole c w
-    unfolding answers
+    pub not-ended : (k : ℕ) → k ≡ length (before lineEnd s) → 0 < length s → length s ≤ k → PutWithin (most + refusalRoom) a 0 whole c w
+    unfolding answerLines
     not-ended k e h l =
         let z : has lineEnd s ≡ false = hasnt-of lineEnd s (rw e at l) in
         stopped (rw (lines-none s z, unended-all s z, some-bytes s h))
 
-    pub no-call : (k : ℕ) → k ≡ length (before lineEnd s) → k < length s → callOf (take k s) ≡ Bad → Line (most + refusalRoom) a 0 whole c w
-    unfolding answers onCall
+    pub no-call : (k : ℕ) → k ≡ length (before lineEnd s) → k < length s → callOf (take k s) ≡ Bad → PutWithin (most + refusalRoom) a 0 whole c w
+    unfolding answerLines onCall
     no-call k e h b =
         let d = cut lineEnd s k e h in
         stopped (rw (lines-more s (d .is), ← d .front, b))
@@ -66,7 +66,7 @@ module _ (a whole b : List ℕ) (v : ℕ) (m : Machine) (n : ℕ) (s : List ℕ)
     shorter = omega (arith, from-length s (k + 1))
 
     next : answered m n s ≡ answerLine call (step m call) ++ answered (step m call .machine) (n + 1) (past s k)
-    unfolding answers onCall
+    unfolding answerLines onCall
     next = let d = cut lineEnd s k e h in rw (lines-more s (d .is), unended-more s (d .is), ← d .front, r, d .rest)
 
     pub play-more :

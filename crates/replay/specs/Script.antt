@@ -1,5 +1,5 @@
 -- What is printed for a script (docs/HANDBOOK.md, "Replaying calls"): "a line `CORES m`, a table .., a line `CALLS`, then one call a line".
-use Prim.Native.Nat.{ℕ, _+_}
+use Prim.Native.Nat.{ℕ, _+_, _*_}
 use mathlib.Core.List.{List, [], _∷_, _++_}
 use mathlib.Core.Bool.{cond}
 use lib.Dec.{ltb}
@@ -19,9 +19,9 @@ use Rattle.machine.specs.declared.call.Call.{Call}
 use Rattle.machine.specs.declared.answer.Answer.{Answer}
 use Rattle.script.specs.Numbers.{maxDigits, maxNumber}
 use Rattle.script.specs.Calls.{callOf}
-use Rattle.script.specs.Output.{badLine, answerLine}
+use Rattle.script.specs.Output.{badLine, answerLine, refusalRoom}
 use Rattle.script.specs.declared.calls.CallLine.{CallLine}
-use Rattle.script.specs.declared.calls.CallLine.the-variants as Line
+use Rattle.script.specs.declared.calls.CallLine.the-variants as CallLine
 use Rattle.replay.specs.Words.{coresWord}
 use Rattle.replay.specs.Calls.{callsStart}
 use Rattle.replay.specs.declared.calls.CallsStart.{CallsStart}
@@ -29,23 +29,23 @@ use Rattle.replay.specs.declared.calls.CallsStart.the-variants.{Found, M
 
 -- "at most 65,536 bytes"
 abbrev pub maxScriptLength : ℕ
-maxScriptLength = 65536
+maxScriptLength = 65_536
 
 -- what is printed from a line on: if it is a call, by `played`, and if it is none, `bad`
 unfoldable pub onCall : CallLine → (Call → List ℕ) → List ℕ → List ℕ
-onCall (Line.Read call) played bad = played call
-onCall Line.Bad played bad = bad
+onCall (CallLine.Read call) played bad = played call
+onCall CallLine.Bad played bad = bad
 
 -- the lines of answers to the calls of some lines and what stands unended after them: the first line has the number n in the whole script, and
 -- the first call gets the machine m. "A line that is no call prints `BAD LINE n` .. and ends the run", and so does an unended last line
-unfoldable pub answers : Machine → (n : ℕ) → List (List ℕ) → List ℕ → List ℕ
-answers m n [] rest = cond (isEmpty rest) [] (badLine n)
-answers m n (l ∷ ls) rest =
-    onCall (callOf l) (λ call. answerLine call (step m call) ++ answers (step m call .machine) (n + 1) ls rest) (badLine n)
+unfoldable pub answerLines : Machine → (n : ℕ) → List (List ℕ) → List ℕ → List ℕ
+answerLines m n [] rest = cond (isEmpty rest) [] (badLine n)
+answerLines m n (l ∷ ls) rest =
+    onCall (callOf l) (λ call. answerLine call (step m call) ++ answerLines (step m call .machine) (n + 1) ls rest) (badLine n)
 
 -- after a start, which may refuse m: "A refused table or m prints `REFUSED n` alone"
 unfoldable pub printedAfterStart : Outcome → Machine → (n : ℕ) → (calls : List ℕ) → List ℕ
-printedAfterStart Done m n calls = answers m n (lines calls) (unended calls)
+printedAfterStart Done m n calls = answerLines m n (lines calls) (unended calls)
 printedAfterStart (Refused number place) m n calls = refusedLine number
 
 -- after the table was read: the same of a refused table
@@ -79,6 +79,6 @@ printed s =
 abbrev pub callRoom : ℕ
 callRoom = 16
 
--- the room that an array needs for it: 16 bytes for each byte of a script, and 32 more
+-- the room that an array needs for what is printed: that for each byte of a script, and a line `BAD LINE n` or `REFUSED n` at the end
 abbrev pub room : ℕ
-room = 1048608
+room = callRoom * maxScriptLength + refusalRoom

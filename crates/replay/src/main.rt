@@ -5,6 +5,7 @@ use script::calls::CallLine;
 use script::calls::MAX_DIGITS;
 use script::calls::MAX_NUMBER;
 use script::calls::call_line;
+use script::output::REFUSAL_ROOM;
 use script::output::put_answer;
 use script::output::put_bad_line;
 use tasks::outcome::Outcome;
@@ -20,22 +21,25 @@ ghost use Prim.Native.Nat.{_+_, _*_, _≤_};
 ghost use lib.ListN.{length};
 ghost use Rattle.text.specs.Lines.{lines, unended};
 ghost use Rattle.text.specs.Output.{Holds};
-ghost use Rattle.script.specs.Output.{Line, refusalRoom};
-ghost use Rattle.replay.specs.Script.{answers, printedFor, printed, callRoom, room};
+ghost use Rattle.script.specs.Output.{PutWithin, refusalRoom};
+ghost use Rattle.replay.specs.Script.{maxScriptLength, answerLines, printedFor, printed, callRoom, room};
 
 // The most bytes that a script has.
 const MAX_SCRIPT_LENGTH: usize = 65_536;
 
 // One more byte than a script may have, so that a longer one is seen to be too long.
-const INPUT_ROOM: usize = 65_537;
+const INPUT_ROOM: usize = MAX_SCRIPT_LENGTH + 1;
 
-// In contracts `room`.
-const OUTPUT_ROOM: usize = 1_048_608;
+// Room of the output for each byte of the calls, in contracts `callRoom`.
+const CALL_ROOM: usize = 16;
+
+// Room for what is printed, in contracts `room`.
+const OUTPUT_ROOM: usize = CALL_ROOM * MAX_SCRIPT_LENGTH + REFUSAL_ROOM;
 
 // Puts the answers to the calls of a text, the first of which is on the line `first` of the script.
 fn play(text: &[u8], mut machine: Machine, first: usize, output: &mut [u8]) -> usize
-    requires { ⌜ first ≤ 65539 ⌝ }
-    ensures { λ r. ⌜ Line (callRoom * length (now (text .entry)) + refusalRoom) (now (output .entry)) 0 (answers machine first (lines (now (text .entry))) (unended (now (text .entry)))) (now (output .exit)) r ⌝ }
+    requires { ⌜ first ≤ maxScriptLength + 3 ⌝ }
+    ensures { λ r. ⌜ PutWithin (callRoom * length (now (text .entry)) + refusalRoom) (now (output .entry)) 0 (answerLines machine first (lines (now (text .entry))) (unended (now (text .entry)))) (now (output .exit)) r ⌝ }
 {
     let mut rest = text;
     let mut line = first;
@@ -59,8 +63,8 @@ fn play(text: &[u8], mut machine: Machine, first: usize, output: &mut [u8]) -> u
 
 // Puts the answers to the calls of a text, or the refusal of the table's text or of the cores.
 fn run(text: &[u8], cores: u32, calls: &[u8], first: usize, output: &mut [u8]) -> usize
-    requires { ⌜ first ≤ 65539 ⌝ }
-    ensures { λ r. ⌜ Line (callRoom * length (now (calls .entry)) + refusalRoom) (now (output .entry)) 0 (printedFor (now (text .entry)) cores first (now (calls .entry))) (now (output .exit)) r ⌝ }
+    requires { ⌜ first ≤ maxScriptLength + 3 ⌝ }
+    ensures { λ r. ⌜ PutWithin (callRoom * length (now (calls .entry)) + refusalRoom) (now (output .entry)) 0 (printedFor (now (text .entry)) cores first (now (calls .entry))) (now (output .exit)) r ⌝ }
 {
     let reading = reader::read(text);
     let outcome = reading.outcome;

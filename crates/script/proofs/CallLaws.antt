@@ -1,5 +1,5 @@
--- The line of a call has five bytes or more, and at most 37: `call-long` and `call-short`.
-use Prim.Native.Nat.{ℕ, _≤_}
+-- The line of a call has five bytes or more, `call-long`, and at most 37, `longestCall`: `call-short`.
+use Prim.Native.Nat.{ℕ, _+_, _-_, _*_, _≤_}
 use native.Mathlib.Omega.{arith}
 use mathlib.Core.Path.{_≡_}
 use mathlib.Core.List.{List}
@@ -7,11 +7,11 @@ use lib.ListN.{length, drop, length-drop}
 use Rattle.laws.proofs.CaseSplits.{by-cond, clash}
 use Rattle.text.specs.Words.{beginsWith}
 use Rattle.text.specs.Number.{isNumber, numberOf, numberAfter}
-use Rattle.text.specs.Fields.{areThree, areNumbers}
+use Rattle.text.specs.Fields.{areNumbers}
 use Rattle.text.specs.declared.number.Number.{Number}
 use Rattle.text.proofs.WordLaws.{not-longer}
 use Rattle.text.proofs.NumberLaws.{number-short}
-use Rattle.text.proofs.Lengths.{numbers-short, three-short}
+use Rattle.text.proofs.Lengths.{numbers-short}
 use Rattle.machine.specs.declared.call.Call.{Call}
 use Rattle.machine.specs.declared.call.Call.the-variants.{Finish, Slot}
 use Rattle.script.specs.Words.{releaseWord, finishWord, joinWord, slotWord}
@@ -38,34 +38,38 @@ call-long l c e =
     (λ p.
     by-cond (λ r. r ≡ Read c → 5 ≤ length l) (beginsWith joinWord l) (λ p e. omega (arith, not-longer joinWord l p)) (λ p e. clash cc))))
 
+-- the most bytes of the line of a call: those of a join, with two spaces between its three numbers
+abbrev pub longestCall : ℕ
+longestCall = length joinWord + 3 * (maxDigits + 1) - 1
+
 -- a line that is a word of at most eight bytes and a number, or is another line
 number-after-short :
     (w l : List ℕ) (f : ℕ → Call) (other : CallLine) (c : Call) → length w ≤ 8
-    → callWith (numberAfter maxDigits maxNumber w l) f other ≡ Read c → (other ≡ Read c → length l ≤ 37) → length l ≤ 37
+    → callWith (numberAfter maxDigits maxNumber w l) f other ≡ Read c → (other ≡ Read c → length l ≤ longestCall) → length l ≤ longestCall
 unfolding numberAfter numberOf callWith
 number-after-short w l f other c h e else =
-    by-cond (λ (n : Number). callWith n f other ≡ Read c → length l ≤ 37) (beginsWith w l)
+    by-cond (λ (n : Number). callWith n f other ≡ Read c → length l ≤ longestCall) (beginsWith w l)
     (λ p.
-    by-cond (λ (n : Number). callWith n f other ≡ Read c → length l ≤ 37) (isNumber maxDigits maxNumber (drop (length w) l))
+    by-cond (λ (n : Number). callWith n f other ≡ Read c → length l ≤ longestCall) (isNumber maxDigits maxNumber (drop (length w) l))
     (λ n e. omega (arith, number-short maxDigits maxNumber (drop (length w) l) n, length-drop (length w) l))
     (λ n e. else e))
     (λ p e. else e) e
 
-pub call-short : (l : List ℕ) (c : Call) → callOf l ≡ Read c → length l ≤ 37
+pub call-short : (l : List ℕ) (c : Call) → callOf l ≡ Read c → length l ≤ longestCall
 unfolding callOf releaseOf joinOf
 call-short l c e =
     number-after-short slotWord l Slot _ c (omega arith) e
     (λ e.
     number-after-short finishWord l Finish _ c (omega arith) e
-    (by-cond (λ r. r ≡ Read c → length l ≤ 37) (beginsWith releaseWord l)
+    (by-cond (λ r. r ≡ Read c → length l ≤ longestCall) (beginsWith releaseWord l)
     (λ p.
-    by-cond (λ r. r ≡ Read c → length l ≤ 37) (areNumbers maxDigits maxNumber 2 (drop 8 l))
-    (λ n e. omega (arith, numbers-short maxDigits maxNumber 2 (drop 8 l) n, length-drop 8 l))
+    by-cond (λ r. r ≡ Read c → length l ≤ longestCall) (areNumbers maxDigits maxNumber 2 (drop (length releaseWord) l))
+    (λ n e. omega (arith, numbers-short maxDigits maxNumber 2 (drop (length releaseWord) l) n, length-drop (length releaseWord) l))
     (λ n e. clash cc))
     (λ p.
-    by-cond (λ r. r ≡ Read c → length l ≤ 37) (beginsWith joinWord l)
+    by-cond (λ r. r ≡ Read c → length l ≤ longestCall) (beginsWith joinWord l)
     (λ p.
-    by-cond (λ r. r ≡ Read c → length l ≤ 37) (areThree maxDigits maxNumber (drop 5 l))
-    (λ n e. omega (arith, three-short maxDigits maxNumber (drop 5 l) n, length-drop 5 l))
+    by-cond (λ r. r ≡ Read c → length l ≤ longestCall) (areNumbers maxDigits maxNumber 3 (drop (length joinWord) l))
+    (λ n e. omega (arith, numbers-short maxDigits maxNumber 3 (drop (length joinWord) l) n, length-drop (length joinWord) l))
     (λ n e. clash cc))
     (λ p e. clash cc))))

@@ -40,11 +40,11 @@ module _ (r : Report) (small : SmallReport r) where
   cores-few zero = omega arith
   cores-few (suc n) =
       let before = cores-few n in
-      let cores = runnerCores (r .ran) (r .assigned) n in
+      let listed = runnerCores (r .ran) (r .assigned) n in
       let core = getD (r .assigned) n 0 in
       by-test (getD (r .ran) n false)
-      (λ e. rw e (omega (arith, further-append cores (core ∷ []), core-few core (small .small-cores n))))
-      (λ e. rw e (omega (arith, further-append cores [])))
+      (λ e. rw e (omega (arith, further-append listed (core ∷ []), core-few core (small .small-cores n))))
+      (λ e. rw e (omega (arith, further-append listed [])))
 
 -- a mask of 32 tasks has 32 bits, and so at most ten digits
 mask-few : (named : List Bool) → length named ≡ maxTasks → length (decimalText (mask named)) ≤ 10

@@ -11,7 +11,7 @@ use Rattle.text.specs.Fields.{threeNumbers}
 use Rattle.text.specs.declared.fields.Numbers.the-variants.{Three, Broken}
 use Rattle.text.proofs.Split.{gone, has-of, hasnt-of}
 use Rattle.text.proofs.ThreeNumbers.{three-are, three-are-not}
-use Rattle.text.proofs.NumbersOn.{not-ended}
+use Rattle.text.proofs.NumbersOn.{no-line-end}
 use Rattle.machine.specs.declared.call.Call.the-variants.{Join}
 use Rattle.script.specs.Numbers.{maxDigits, maxNumber}
 use Rattle.script.specs.Calls.{joinOf}
@@ -21,7 +21,7 @@ module _ (f : List ℕ) where
   -- a byte 10 is in none of three numbers
   ended : has lineEnd f ≡ true → Bad ≡ joinOf f
   unfolding joinOf
-  ended h = rw (not-ended maxDigits maxNumber f h)
+  ended h = rw (no-line-end maxDigits maxNumber 2 f h)
 
   pub join-broken : threeNumbers maxDigits maxNumber f ≡ Broken → Bad ≡ joinOf f
   unfolding joinOf

@@ -1,4 +1,4 @@
-pub mod NumbersRead
+pub mod FilledFromLine
 pub mod CallLaws
 pub mod JoinLaws
 pub mod OutputLaws

@@ -1,6 +1,6 @@
 -- The lines of the output but for a report: how long they are, and what they are put together from. Others cite `refused-few`, `refused-put`, `bad-put` and
--- `done-line`, for one kind of line each, and `line-all`.
-use Prim.Native.Nat.{ℕ, _^_, _≤_, _<_}
+-- `done-line`, for one kind of line each, and the laws of `PutWithin`: `within-all` and `within-then`.
+use Prim.Native.Nat.{ℕ, _+_, _^_, _≤_, _<_}
 use native.Mathlib.Omega.{arith}
 use mathlib.Core.Path.{_≡_, refl}
 use mathlib.Core.Logic.{⊎-elim}
@@ -17,22 +17,28 @@ use Rattle.machine.proofs.call.Call.{the-type}
 use Rattle.machine.specs.declared.call.Call.the-variants.{Release, Finish, Slot, Join}
 use Rattle.machine.specs.declared.answer.Report.{Report}
 use Rattle.script.specs.Words.{doneWord, badLineWord}
-use Rattle.script.specs.Output.{Line, badLine, acceptedLine, refusalRoom}
+use Rattle.script.specs.Output.{PutWithin, badLine, acceptedLine, refusalRoom}
 
 -- a text that was put at the start of an array which has room for it
-pub line-all : (most : ℕ) (a b s : List ℕ) (r : ℕ) → most ≤ length a → Line most a 0 s b r → Holds s b r
-line-all most a b s r h l = put-all a s b r (l .put) (omega (arith, l .few))
+pub within-all : (most : ℕ) (a b s : List ℕ) (r : ℕ) → most ≤ length a → PutWithin most a 0 s b r → Holds s b r
+within-all most a b s r h l = put-all a s b r (l .put) (omega (arith, l .few))
+
+-- one text after another
+pub within-then :
+    (p q : ℕ) (a b c s t : List ℕ) (u v w : ℕ) → PutWithin p a u s b v → PutWithin q b v t c w → PutWithin (p + q) a u (s ++ t) c w
+within-then p q a b c s t u v w x y =
+    record { put = put-then a u s b v (x .put) t c w (y .put); few = simp length-append (omega (arith, x .few, y .few)) }
 
 -- a refusal's number has at most ten digits
 pub refused-few : (n : ℕ) → n < 2 ^ 32 → length (refusedLine n) ≤ refusalRoom
 unfolding refusedLine numbersLine furtherNumbers
 refused-few n h = simp length-append (omega (arith, text-few 9 n (omega arith)))
 
-pub refused-put : (most : ℕ) → refusalRoom ≤ most → (a b : List ℕ) (n u r : ℕ) → n < 2 ^ 32 → Put a u (refusedLine n) b r → Line most a u (refusedLine n) b r
+pub refused-put : (most : ℕ) → refusalRoom ≤ most → (a b : List ℕ) (n u r : ℕ) → n < 2 ^ 32 → Put a u (refusedLine n) b r → PutWithin most a u (refusedLine n) b r
 refused-put most m a b n u r h p = record { put = p; few = omega (arith, refused-few n h) }
 
 pub bad-put :
-    (a b c : List ℕ) (n u v w : ℕ) → n < 2 ^ 64 → Put a u badLineWord b v → Put b v (numbersLine (n ∷ [])) c w → Line refusalRoom a u (badLine n) c w
+    (a b c : List ℕ) (n u v w : ℕ) → n < 2 ^ 64 → Put a u badLineWord b v → Put b v (numbersLine (n ∷ [])) c w → PutWithin refusalRoom a u (badLine n) c w
 unfolding badLine numbersLine furtherNumbers
 bad-put a b c n u v w h p q =
     record { put = put-then a u badLineWord b v p _ c w q; few = simp length-append (omega (arith, text-few 19 n (omega arith))) }

@@ -6,7 +6,7 @@ use lib.ListN.{length, drop}
 use Rattle.text.specs.Lines.{field}
 use Rattle.text.specs.Words.{beginsWith}
 use Rattle.text.specs.Number.{decimal, numberAfter}
-use Rattle.text.specs.Fields.{areThree, areNumbers}
+use Rattle.text.specs.Fields.{areNumbers}
 use Rattle.text.specs.declared.number.Number.{Number}
 use Rattle.text.specs.declared.number.Number.the-variants as Number
 use Rattle.machine.specs.declared.call.Call.{Call}
@@ -23,7 +23,7 @@ releaseOf f = cond (areNumbers maxDigits maxNumber 2 f) (Read (Release (decimal 
 -- the join of the fields "T C D", if they are three numbers
 unfoldable pub joinOf : List ℕ → CallLine
 joinOf f =
-    cond (areThree maxDigits maxNumber f)
+    cond (areNumbers maxDigits maxNumber 3 f)
     (Read (Join (record { period = decimal (field 0 f); budget = decimal (field 1 f); deadline = decimal (field 2 f) })))
     Bad
 

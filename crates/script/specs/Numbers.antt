@@ -1,5 +1,5 @@
 -- The numbers of scripts, and of probe's texts (docs/HANDBOOK.md, "Replaying calls"): "numbers of 1 to 10 digits without a leading zero, at most
--- 4,294,967,295"; as in a table, 0 alone is well formed. Their limits, and a line of them read into an array.
+-- 4,294,967,295"; as in a table, 0 alone is well formed. Their limits, and an array that is filled from a line of them.
 use Prim.Native.Nat.{ℕ}
 use mathlib.Core.Path.{_≡_}
 use mathlib.Core.List.{List, [], _∷_}
@@ -15,7 +15,7 @@ maxDigits = 10
 
 -- "at most 4,294,967,295"
 abbrev pub maxNumber : ℕ
-maxNumber = 4294967295
+maxNumber = 4_294_967_295
 
 -- an array whose first entries become the numbers that a line begins with, up to the first field that is none; the others stay
 unfoldable pub numbersInto : (digits largest : ℕ) → (line array : List ℕ) → List ℕ
@@ -23,7 +23,7 @@ numbersInto digits largest l [] = []
 numbersInto digits largest l (x ∷ a) =
     cond (isNumber digits largest (field 0 l)) (decimal (field 0 l) ∷ numbersInto digits largest (after space l) a) (x ∷ a)
 
--- what reading a line into an array answers, whether it is as many numbers as the array has entries, and the array after it
-pub record NumbersRead (digits largest : ℕ) (line array after : List ℕ) (r : Bool) : Type 0 where
+-- what filling an array from a line answers, whether the line is as many numbers as the array has entries, and the array after it
+pub record FilledFromLine (digits largest : ℕ) (line array after : List ℕ) (r : Bool) : Type 0 where
   pub is : r ≡ areNumbers digits largest (length array) line
-  pub read : after ≡ numbersInto digits largest line array
+  pub filled : after ≡ numbersInto digits largest line array

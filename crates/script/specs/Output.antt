@@ -1,11 +1,11 @@
 -- What is printed for a call (docs/HANDBOOK.md, "Replaying calls"): "Output, one line per call, each ended by byte 10".
-use Prim.Native.Nat.{ℕ, zero, suc, _≤_}
+use Prim.Native.Nat.{ℕ, zero, suc, _+_, _*_, _≤_}
 use mathlib.Core.Bool.{Bool, false, cond}
 use mathlib.Core.List.{List, [], _∷_, _++_}
 use lib.ListN.{length, getD}
 use Rattle.text.specs.Lines.{lineEnd}
 use Rattle.text.specs.Output.{Put, numbersLine, refusedLine}
-use Rattle.tasks.specs.Limits.{maxTasks}
+use Rattle.tasks.specs.Limits.{maxTasks, maxCores}
 use Rattle.tasks.specs.declared.outcome.Outcome.{Outcome}
 use Rattle.tasks.specs.declared.outcome.Outcome.the-variants.{Done, Refused}
 use Rattle.machine.specs.declared.call.Call.{Call}
@@ -51,9 +51,9 @@ refusalRoom = 32
 
 -- bytes that are enough for the line of an answer of the machine: four numbers of ten digits, 16 cores of two, and a byte after each
 abbrev pub answerRoom : ℕ
-answerRoom = 92
+answerRoom = 4 * (10 + 1) + maxCores * (2 + 1)
 
 -- a text of at most so many bytes was put after the first `used` bytes of an array
-pub record Line (most : ℕ) (before : List ℕ) (used : ℕ) (text after : List ℕ) (r : ℕ) : Type 0 where
+pub record PutWithin (most : ℕ) (before : List ℕ) (used : ℕ) (text after : List ℕ) (r : ℕ) : Type 0 where
   pub put : Put before used text after r
   pub few : length text ≤ most

@@ -1,5 +1,5 @@
 // The call of a line, which stands here without its byte 10.
-use crate::numbers::read_numbers;
+use crate::numbers::fill_from_line;
 use machine::call::Call;
 use tasks::task::Task;
 use text::bytes;
@@ -16,6 +16,7 @@ pub const MAX_DIGITS: usize = 10;
 // The largest number of a script.
 pub const MAX_NUMBER: u32 = 4_294_967_295;
 
+// The call that a line is, or that it is none.
 pub enum CallLine {
     Read(Call),
     Bad,
@@ -26,7 +27,7 @@ fn release_fields(fields: &[u8]) -> CallLine
     ensures { λ r. ⌜ r ≡ releaseOf (now (fields .entry)) ⌝ }
 {
     let mut numbers = [0u32; 2];
-    if !read_numbers(fields, &mut numbers, MAX_DIGITS, MAX_NUMBER) {
+    if !fill_from_line(fields, &mut numbers, MAX_DIGITS, MAX_NUMBER) {
         return CallLine::Bad;
     }
     CallLine::Read(Call::Release {
@@ -68,11 +69,13 @@ pub fn call_line(line: &[u8]) -> CallLine
     if let Number::Read(number) = number::number_after(line, b"FINISH ", MAX_DIGITS, MAX_NUMBER) {
         return CallLine::Read(Call::Finish(number));
     }
-    if bytes::begins_with(line, b"RELEASE ") {
-        return release_fields(&line[8..]);
+    let release = b"RELEASE ";
+    if bytes::begins_with(line, release) {
+        return release_fields(&line[release.len()..]);
     }
-    if bytes::begins_with(line, b"JOIN ") {
-        return join_fields(&line[5..]);
+    let join = b"JOIN ";
+    if bytes::begins_with(line, join) {
+        return join_fields(&line[join.len()..]);
     }
     CallLine::Bad
 }

@@ -3,6 +3,7 @@ use machine::answer::Answer;
 use machine::answer::Report;
 use machine::call::Call;
 use tasks::flags::mask;
+use tasks::limits::MAX_CORES;
 use tasks::limits::MAX_TASKS;
 use tasks::outcome::Outcome;
 use text::output::put;
@@ -10,11 +11,17 @@ use text::output::put_numbers;
 use text::output::put_refused;
 ghost use mathlib.Core.Path.{_≡_};
 ghost use Rattle.text.specs.Output.{Put};
-ghost use Rattle.script.specs.Output.{Line, badLine, reportLine, answerLine, refusalRoom};
+ghost use Rattle.script.specs.Output.{PutWithin, badLine, reportLine, answerLine, refusalRoom};
+
+// Room for a line REFUSED or BAD LINE, in contracts `refusalRoom`.
+pub const REFUSAL_ROOM: usize = 32;
+
+// Room for the line of an answer of the machine, in contracts `answerRoom`: four numbers of ten digits, 16 cores of two, and a byte after each.
+pub const ANSWER_ROOM: usize = 4 * (10 + 1) + MAX_CORES as usize * (2 + 1);
 
 // The line for a line of the script that is not what it must be.
 pub fn put_bad_line(output: &mut [u8], used: usize, line: usize) -> usize
-    ensures { λ r. ⌜ Line refusalRoom (now (output .entry)) used (badLine line) (now (output .exit)) r ⌝ }
+    ensures { λ r. ⌜ PutWithin refusalRoom (now (output .entry)) used (badLine line) (now (output .exit)) r ⌝ }
 {
     let at = put(output, used, b"BAD LINE ");
     let numbers = [line as u64];

@@ -1,4 +1,4 @@
-// Prints the lines of the slack test of the table on standard input: document 02, change 6.
+// Prints the lines of the slack test of the table on standard input: docs/HANDBOOK.md, "Reading a verdict".
 use lines::OUTPUT_ROOM;
 use lines::Test;
 use tasks::limits::MAX_TEXT_LENGTH;

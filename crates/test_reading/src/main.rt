@@ -12,6 +12,7 @@ const INPUT_ROOM: usize = MAX_TEXT_LENGTH + 1;
 // Room for a refusal, the number of tasks, and 32 lines of three numbers of at most 7 digits.
 const OUTPUT_ROOM: usize = 1_024;
 
+// READ, or the refusal with its place.
 fn put_outcome(output: &mut [u8], outcome: Outcome) -> usize {
     match outcome {
         Outcome::Done => put(output, 0, b"READ\n"),
@@ -36,6 +37,7 @@ fn put_tasks(output: &mut [u8], used: usize, tasks: [Task; MAX_TASKS]) -> usize 
     at
 }
 
+// What reading a text gives: the outcome, the number of tasks, and the tasks.
 fn put_reading(output: &mut [u8], text: &[u8]) -> usize {
     let answer = reader::read(text);
     let outcome = answer.outcome;

@@ -1,6 +1,6 @@
 -- Laws of the fields of a line. Others cite how many there are (`count-one`, `count-more`, `count-positive`), and that a line of three fields is
 -- these with a space between them (`three-whole`).
-use Prim.Native.Nat.{ℕ, zero, suc, _≤_}
+use Prim.Native.Nat.{ℕ, suc, _≤_}
 use native.Mathlib.Omega.{arith}
 use mathlib.Core.Path.{_≡_, refl, sym, ap, _∙_}
 use mathlib.Core.Bool.{true, false, false≢true}

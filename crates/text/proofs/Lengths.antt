@@ -1,8 +1,8 @@
--- How long a line of numbers is. Others cite `numbers-short`, of any number of them, and `three-short`.
+-- How long a line of so many numbers is. Others cite `numbers-short`.
 use Prim.Native.Nat.{ℕ, zero, suc, _+_, _*_, _≤_}
 use native.Mathlib.Omega.{arith}
 use mathlib.Core.Path.{_≡_, ap}
-use mathlib.Core.Bool.{true, _&&_}
+use mathlib.Core.Bool.{true}
 use mathlib.Core.List.{List}
 use borrow.Author.Tests.{eqb-true}
 use lib.Dec.{eqb}
@@ -11,7 +11,7 @@ use Rattle.laws.proofs.CaseSplits.{by-test}
 use Rattle.laws.proofs.Booleans.{and-left, and-right}
 use Rattle.text.specs.Lines.{space, has, before, after, fieldCount, field}
 use Rattle.text.specs.Number.{isNumber}
-use Rattle.text.specs.Fields.{areThree, eachNumber, areNumbers}
+use Rattle.text.specs.Fields.{eachNumber, areNumbers}
 use Rattle.text.proofs.Split.{here, gone}
 use Rattle.text.proofs.NumberLaws.{number-short}
 use Rattle.text.proofs.FieldLaws.{count-one, count-more, count-positive}
@@ -37,17 +37,3 @@ module _ (k largest : ℕ) where
   numbers-short n l t =
       let count = eqb-true (fieldCount l) n (and-left (eqb (fieldCount l) n) (eachNumber k largest n l) t) in
       each-short n l count (and-right (eqb (fieldCount l) n) (eachNumber k largest n l) t)
-
-  pub three-short : (l : List ℕ) → areThree k largest l ≡ true → length l + 1 ≤ 3 * (k + 1)
-  unfolding areThree eachNumber field
-  three-short l t =
-      let first = isNumber k largest (field 0 l) in
-      let second = isNumber k largest (field 1 l) in
-      let third = isNumber k largest (field 2 l) in
-      let count = eqb (fieldCount l) 3 in
-      let two = and-left (count && first && second) third t in
-      let one = and-left (count && first) second two in
-      let a = and-right count first one in
-      let b = and-right (count && first) second two in
-      let c = and-right (count && first && second) third t in
-      each-short 3 l (eqb-true (fieldCount l) 3 (and-left count first one)) (rw (a, b, c))

@@ -1,5 +1,6 @@
--- Laws of `lines` and `unended`: of a text that has a byte 10, and of one that has none; how many bytes the lines have (`total-lines`); and that
--- nothing of a text is lost (`lines-whole`).
+-- Laws of `lines` and `unended`. Others cite `lines-more` and `unended-more`, of a text that has a byte 10; `lines-none` and `unended-all`, of one that has
+-- none; `total-lines`, how many bytes the lines have, `total`; and `no-bytes` and `some-bytes`, whether a text is empty. `lines-whole` says that nothing of
+-- a text is lost.
 use Prim.Native.Nat.{ℕ, suc, _+_, _≤_, _<_}
 use native.Mathlib.Omega.{arith}
 use mathlib.Core.Path.{_≡_, refl, sym, ap}

@@ -1,5 +1,6 @@
 -- Laws of numbers in base ten. Others cite `up-to` and `not-up-to` (what `numberUpTo` says of a text), `no-other` (a byte that is no digit), `no-limit`
--- (a largest value that is never reached), `number-short`, `digit`, `decimal-append` (one digit more), and the laws of a field read up to a space.
+-- (a largest value that is never reached), `number-short`, `digit`, `decimal-append` (one digit more), `Numbered` (a field that is a number), and the laws
+-- of a field read up to a space: `broken-field`, `longer-field` and `whole-field`.
 use Prim.Native.Nat.{ℕ, suc, _+_, _-_, _*_, _^_, _≤_, _<_}
 use native.Mathlib.Nat.{pow-le-pow-right, pow-suc}
 use native.Mathlib.Omega.{arith}

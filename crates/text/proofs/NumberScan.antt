@@ -1,4 +1,5 @@
--- The scan of a number's digits: its invariant `Scanned`, and whether the field is a number at each way out of the scan.
+-- The scan of a number's digits. Others cite its invariant `Scanned`, with `scanned-none` and `scanned-more`, and whether the field is a number at each way
+-- out of the scan: `no-digit` and `too-large` within it; `empty`, `long` and `leading` after it; and `complete`, with `one-digit` and `other-digit`.
 use Prim.Native.Nat.{ℕ, _+_, _-_, _*_, _≤_, _<_}
 use native.Mathlib.Numerals.{add-one}
 use native.Mathlib.Omega.{arith}
@@ -14,14 +15,13 @@ use Rattle.text.proofs.NumberLaws.{Numbered}
 
 -- the first i bytes of f are digits that make n, which is not too large
 pub record Scanned (largest : ℕ) (f : List ℕ) (n i : ℕ) : Type 0 where
-  pub within : i ≤ length f
   pub digits : allDigits f ≡ allDigits (drop i f)
   pub value : decimal f ≡ decimalFrom n (drop i f)
   pub small : n ≤ largest
 
 pub scanned-none : (largest : ℕ) (f : List ℕ) → Scanned largest f 0 0
 unfolding decimal
-scanned-none largest f = record { within = omega arith; digits = refl; value = refl; small = omega arith }
+scanned-none largest f = record { digits = refl; value = refl; small = omega arith }
 
 -- more digits make no smaller number
 grows : (n : ℕ) (f : List ℕ) → n ≤ decimalFrom n f
@@ -49,7 +49,6 @@ module _ (largest : ℕ) (f : List ℕ) (n i : ℕ) (p : Scanned largest f n i) 
   unfolding allDigits
   scanned-more d l =
       record {
-        within = omega arith;
         digits = p .digits ∙ rw (add-one, drop-cons f i 0 h, d);
         value = value-is;
         small = l;

@@ -1,5 +1,6 @@
--- Laws of `Put`. Others cite `put-none`, `put-then` (one text after another), `put-size`, `put-all` (where there is room the array holds the
--- text), and `Partly` with its laws, for a text that a loop puts part by part.
+-- Laws of `Put`. Others cite `put-none`, `put-then` (one text after another), `put-size`, `put-byte`, `put-over` and `put-full` (one byte more, and none), and
+-- `put-all` (where there is room the array holds the text); and for a text that a loop puts part by part `Partly`, with `partly-none`, `partly-more`,
+-- `partly-last` and `partly-all`.
 use Prim.Native.Nat.{ℕ, suc, _+_, _≤_, _<_}
 use native.Mathlib.Omega.{arith}
 use mathlib.Core.Path.{_≡_, refl, sym, ap, _∙_}

@@ -1,4 +1,5 @@
--- The first line of a text of which only the first k bytes are taken: whole where it ends within them (`taken`), and else not ended (`untaken`).
+-- The first line of a text of which only the first k bytes are taken: whole where it ends within them (`taken`,
+-- with `Taken`), and else not ended (`untaken`).
 use Prim.Native.Nat.{ℕ, zero, suc, _+_, _-_, _≤_, _<_}
 use native.Mathlib.Omega.{arith}
 use mathlib.Core.Path.{_≡_, refl, sym}

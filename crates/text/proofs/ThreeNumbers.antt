@@ -10,24 +10,24 @@ use Rattle.laws.proofs.CaseSplits.{by-cond, clash}
 use Rattle.laws.proofs.Parts.{past}
 use Rattle.text.specs.Lines.{lineEnd, space, has, before, after, field}
 use Rattle.text.specs.Number.{decimal, isNumber, numberUpTo}
-use Rattle.text.specs.Fields.{areThree, threeNumbers}
+use Rattle.text.specs.Fields.{areNumbers, threeNumbers}
 use Rattle.text.specs.declared.number.Before.the-variants as Before
 use Rattle.text.specs.declared.fields.Numbers.the-variants.{Three, Broken}
 use Rattle.text.proofs.Split.{gone, hasnt-of, cut}
 use Rattle.text.proofs.NumberLaws.{up-to, not-up-to}
-use Rattle.text.proofs.NumbersOn.{numbersOn, unspaced, are-three, on-line, first-on}
+use Rattle.text.proofs.NumbersOn.{numbersOn, unspaced, are-numbers, on-line, first-on}
 
 module _ (k largest : ℕ) (s : List ℕ) where
   -- the three tests as the code makes them
   tests :
-      areThree k largest (before lineEnd s)
+      areNumbers k largest 3 (before lineEnd s)
       ≡ (has space s && isNumber k largest (before space s)
       && (has space (after space s) && isNumber k largest (before space (after space s))
       && isNumber k largest (before lineEnd (after space (after space s)))))
   unfolding numbersOn
-  tests = are-three k largest (before lineEnd s) ∙ on-line k largest 1 s ∙ rw (on-line k largest 0 (after space s))
+  tests = are-numbers k largest 2 (before lineEnd s) ∙ on-line k largest 1 s ∙ rw (on-line k largest 0 (after space s))
 
-  broken : areThree k largest (before lineEnd s) ≡ false → Broken ≡ threeNumbers k largest s
+  broken : areNumbers k largest 3 (before lineEnd s) ≡ false → Broken ≡ threeNumbers k largest s
   unfolding threeNumbers
   broken e = rw e
 
@@ -50,7 +50,7 @@ module _ (k largest : ℕ) (s : List ℕ) where
       is = cut space s a (up-to k largest space s x a e .1) h .is
 
       more :
-          areThree k largest (before lineEnd s)
+          areNumbers k largest 3 (before lineEnd s)
           ≡ (has space (past s a) && isNumber k largest (before space (past s a)) && isNumber k largest (before lineEnd (after space (past s a))))
       more = tests ∙ rw (is, up-to k largest space s x a e .0 .is, rest)
 
@@ -72,7 +72,7 @@ module _ (k largest : ℕ) (s : List ℕ) where
           is₁ : has space (past s a) ≡ true
           is₁ = cut space (past s a) b (up-to k largest space (past s a) y b f .1) h₁ .is
 
-          last : areThree k largest (before lineEnd s) ≡ isNumber k largest (before lineEnd (past (past s a) b))
+          last : areNumbers k largest 3 (before lineEnd s) ≡ isNumber k largest (before lineEnd (past (past s a) b))
           last = more ∙ rw (is₁, up-to k largest space (past s a) y b f .0 .is, rest₁)
 
           pub no-third : numberUpTo k largest lineEnd (past (past s a) b) ≡ Before.Broken → Broken ≡ threeNumbers k largest s
@@ -86,7 +86,7 @@ module _ (k largest : ℕ) (s : List ℕ) where
                 let (w₁, l₁) = up-to k largest space s x a e in
                 let (w₂, l₂) = up-to k largest space (past s a) y b f in
                 let (w₃, l₃) = up-to k largest lineEnd (past (past s a) b) z d g in
-                let o = first-on k largest 1 s (sym (are-three k largest (before lineEnd s)) ∙ last ∙ w₃ .is) in
+                let o = first-on k largest 1 s (sym (are-numbers k largest 2 (before lineEnd s)) ∙ last ∙ w₃ .is) in
                 let q = first-on k largest 0 (past s a) (rw (← rest) at (o .next)) in
                 let u : before lineEnd (past (past s a) b) ≡ after space (after space (before lineEnd s)) =
                 rw (o .rest, ← rest, q .rest, rest₁)
@@ -101,7 +101,7 @@ module _ (k largest : ℕ) (s : List ℕ) where
 -- a text whose first line is three numbers, and one whose is not
 module _ (k largest : ℕ) (s : List ℕ) where
   pub record AreThree (x y z n : ℕ) : Type 0 where
-    pub are : areThree k largest (before lineEnd s) ≡ true
+    pub are : areNumbers k largest 3 (before lineEnd s) ≡ true
     pub first : decimal (field 0 (before lineEnd s)) ≡ x
     pub second : decimal (field 1 (before lineEnd s)) ≡ y
     pub third : decimal (field 2 (before lineEnd s)) ≡ z
@@ -110,13 +110,13 @@ module _ (k largest : ℕ) (s : List ℕ) where
   pub three-are : (x y z n : ℕ) → threeNumbers k largest s ≡ Three x y z n → AreThree x y z n
   unfolding threeNumbers
   three-are x y z n =
-      by-cond (λ r. r ≡ Three x y z n → AreThree x y z n) (areThree k largest (before lineEnd s))
+      by-cond (λ r. r ≡ Three x y z n → AreThree x y z n) (areNumbers k largest 3 (before lineEnd s))
       (λ t e. record { are = t; first = cc; second = cc; third = cc; count = cc })
       (λ t e. clash cc)
 
-  pub three-are-not : threeNumbers k largest s ≡ Broken → areThree k largest (before lineEnd s) ≡ false
+  pub three-are-not : threeNumbers k largest s ≡ Broken → areNumbers k largest 3 (before lineEnd s) ≡ false
   unfolding threeNumbers
   three-are-not =
-      by-cond (λ r. r ≡ Broken → areThree k largest (before lineEnd s) ≡ false) (areThree k largest (before lineEnd s))
+      by-cond (λ r. r ≡ Broken → areNumbers k largest 3 (before lineEnd s) ≡ false) (areNumbers k largest 3 (before lineEnd s))
       (λ t e. clash cc)
       (λ t e. t)

@@ -9,18 +9,6 @@ use Rattle.text.specs.Number.{isNumber, decimal}
 use Rattle.text.specs.declared.fields.Numbers.{Numbers}
 use Rattle.text.specs.declared.fields.Numbers.the-variants as Numbers
 
--- whether a line is three numbers, each of at most so many digits and at most `largest`
-unfoldable pub areThree : (digits largest : ℕ) → List ℕ → Bool
-areThree digits largest l =
-    eqb (fieldCount l) 3 && isNumber digits largest (field 0 l) && isNumber digits largest (field 1 l) && isNumber digits largest (field 2 l)
-
--- the three numbers that the first line of a text is, and how many bytes the line has: without its byte 10, or all of the text where there is none;
--- a line that is not three numbers is Broken
-unfoldable pub threeNumbers : (digits largest : ℕ) → List ℕ → Numbers
-threeNumbers digits largest s =
-    let l = before lineEnd s in
-    cond (areThree digits largest l) (Numbers.Three (decimal (field 0 l)) (decimal (field 1 l)) (decimal (field 2 l)) (length l)) Numbers.Broken
-
 -- whether each of the first n fields of a line is a number, of at most so many digits and at most `largest`
 unfoldable pub eachNumber : (digits largest n : ℕ) → List ℕ → Bool
 eachNumber digits largest zero l = true
@@ -29,3 +17,15 @@ eachNumber digits largest (suc n) l = isNumber digits largest (field 0 l) && eac
 -- whether a line is n such numbers: "Between two fields stands one space"
 unfoldable pub areNumbers : (digits largest n : ℕ) → List ℕ → Bool
 areNumbers digits largest n l = eqb (fieldCount l) n && eachNumber digits largest n l
+
+-- the three numbers that the first line of a text is, and how many bytes the line has: without its byte 10, or all of the text where there is none;
+-- a line that is not three numbers is Broken
+unfoldable pub threeNumbers : (digits largest : ℕ) → List ℕ → Numbers
+threeNumbers digits largest s =
+    let l = before lineEnd s in
+    cond (areNumbers digits largest 3 l) (Numbers.Three (decimal (field 0 l)) (decimal (field 1 l)) (decimal (field 2 l)) (length l)) Numbers.Broken
+
+-- whether a line is three numbers, each of at most so many digits and at most `largest`
+unfoldable pub areThree : (digits largest : ℕ) → List ℕ → Bool
+areThree digits largest l =
+    eqb (fieldCount l) 3 && isNumber digits largest (field 0 l) && isNumber digits largest (field 1 l) && isNumber digits largest (field 2 l)

@@ -4,7 +4,7 @@ use crate::number::Before;
 ghost use mathlib.Core.Path.{_≡_};
 ghost use Rattle.text.specs.Fields.{threeNumbers};
 
-// The numbers of a line of three fields, in their order. The line is `length` bytes long.
+// The numbers of a line of three fields, in their order, or that they are not three numbers. The line is `length` bytes long.
 pub enum Numbers {
     Three {
         first: u32,

@@ -3,12 +3,13 @@ use crate::bytes;
 ghost use mathlib.Core.Path.{_≡_};
 ghost use Rattle.text.specs.Number.{isDigit, numberOf, numberUpTo, numberAfter};
 
+// The number that a field is, or that it is none.
 pub enum Number {
     Read(u32),
     Broken,
 }
 
-// A number that is `length` bytes long, at the start of a text.
+// A number that is `length` bytes long, at the start of a text, or that there is none.
 pub enum Before {
     Read { number: u32, length: usize },
     Broken,

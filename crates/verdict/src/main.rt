@@ -1,4 +1,4 @@
-// Prints the verdict lines of the table on standard input: document 01, "The table as text".
+// Prints the lines of the window test of the table on standard input: document 01, "The table as text".
 use lines::OUTPUT_ROOM;
 use lines::Test;
 use tasks::limits::MAX_TEXT_LENGTH;

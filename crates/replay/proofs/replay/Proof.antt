@@ -11,9 +11,9 @@ use lib.Seq.{length-take-le}
 use Rattle.laws.proofs.Parts.{past, from-drop, from-length}
 use Rattle.replay.specs.declared.calls.CallsStart.{CallsStart}
 use Rattle.script.specs.Output.{refusalRoom}
-use Rattle.replay.specs.Script.{printedAfterCores, printed, room}
+use Rattle.replay.specs.Script.{maxScriptLength, printedAfterCores, printed, room}
 use Rattle.replay.proofs.CallsStart.{Within, found-within}
-use Rattle.script.proofs.OutputLaws.{line-all, refused-put}
+use Rattle.script.proofs.OutputLaws.{within-all, refused-put}
 use Rattle.replay.proofs.ScriptLaws.{first-unended, first-broken, first-read}
 use Rattle.replay.proofs.replay.Statement.{statement}
 use Rattle.replay.proofs.replay.Tie as tie
@@ -25,7 +25,7 @@ script c = c .before .before .before .before .before .args .script .now
 abbrev text : tie.Else2 → List ℕ
 text c = past (script c) (c .before .find .result)
 
-script-few : (c : tie.Else1) → length (c .before .before .before .args .script .now) ≤ 65536
+script-few : (c : tie.Else1) → length (c .before .before .before .args .script .now) ≤ maxScriptLength
 script-few c = omega (arith, c .if1 .left)
 
 -- that place, from where the cores were read, and from where the line of the calls was looked for
@@ -55,7 +55,7 @@ found :
 found c = found-within _ _ _ _ (sym (c .before .before .find-calls .ensures) ∙ c .table .given .1)
 
 -- the text is no longer than a script may be
-text-few : (c : tie.Else2) → length (text c) ≤ 65536
+text-few : (c : tie.Else2) → length (text c) ≤ maxScriptLength
 text-few c = omega (arith, script-few (c .before .before), from-length (script c) (c .before .find .result + 1))
 
 -- the output's room
@@ -67,15 +67,15 @@ unfolding printed
 returns c =
     let p = c .before .before in
     let t = p .before .before in
-    let h : 65536 < length (t .before .before .before .args .script .now) = omega (arith, t .if1 .taken) in
-    rw (lt-ltb _ _ h) (line-all _ _ _ _ _ (omega (arith, t .before .before .before .pre)) (refused-put refusalRoom (omega arith) _ _ _ _ _ (omega arith) (p .put-refused .ensures)))
+    let h : maxScriptLength < length (t .before .before .before .args .script .now) = omega (arith, t .if1 .taken) in
+    rw (lt-ltb _ _ h) (within-all _ _ _ _ _ (omega (arith, t .before .before .before .pre)) (refused-put refusalRoom (omega arith) _ _ _ _ _ (omega arith) (p .put-refused .ensures)))
 
 returns-2 : tie.Need-returns-2
 returns-2 c =
     let p = c .before .before in
     let t = p .before .before in
     rw (first-unended _ (script-few (t .before .before)) _ (t .before .find .ensures) (t .if2 .taken))
-    (line-all _ _ _ _ _ (omega (arith, t .before .before .before .before .before .pre)) (p .put-bad-line .ensures))
+    (within-all _ _ _ _ _ (omega (arith, t .before .before .before .before .before .pre)) (p .put-bad-line .ensures))
 
 slice-aggregate-number-after : tie.Need-slice-aggregate-number-after
 slice-aggregate-number-after c = sym (length-take-le _ _ (le-of-lt (c .before .if2 .left)))
@@ -87,7 +87,7 @@ returns-3 c =
     let n = t .before .before in
     let e = n .before .before .before in
     rw (first-broken _ (script-few (e .before .before)) _ (e .before .find .ensures) (e .if2 .left) (sym (n .number-after .ensures) ∙ t .enum-told .given .1))
-    (line-all _ _ _ _ _ (omega (arith, has-room e)) (p .put-bad-line2 .ensures))
+    (within-all _ _ _ _ _ (omega (arith, has-room e)) (p .put-bad-line2 .ensures))
 
 slice-aggregate-run : tie.Need-slice-aggregate-run
 slice-aggregate-run c = sym (length-take-le _ _ (found (c .before .before) .ends))
@@ -108,7 +108,7 @@ unfolding printedAfterCores
 returns-4 c =
     let p = c .before .before in
     let l = p .before .before .before in
-    rw (printed-is (l .before .before) _ (l .line .given .1)) (line-all _ _ _ _ _ (omega (arith, has-room (line-of (cores-of (l .before .before))))) (p .put-bad-line3 .ensures))
+    rw (printed-is (l .before .before) _ (l .line .given .1)) (within-all _ _ _ _ _ (omega (arith, has-room (line-of (cores-of (l .before .before))))) (p .put-bad-line3 .ensures))
 
 returns-5 : tie.Need-returns-5
 unfolding printedAfterCores
@@ -118,7 +118,7 @@ returns-5 c =
     let f = t .before .before in
     let e = line-of (cores-of f) in
     let k = t .table .given .0 .1 .0 in
-    rw (printed-is f _ (t .table .given .1)) (rw (from-drop (text e) k) at (line-all _ _ _ _ _ (omega (arith, text-few e, from-length (text e) k, has-room e)) (r .run .ensures)))
+    rw (printed-is f _ (t .table .given .1)) (rw (from-drop (text e) k) at (within-all _ _ _ _ _ (omega (arith, text-few e, from-length (text e) k, has-room e)) (r .run .ensures)))
 
 pub replay-spec : {M : Type 1} → statement M
 replay-spec =

@@ -9,36 +9,36 @@ use borrow.Author.Needs.{needs}
 use lib.ListN.{take, replicate}
 use lib.Seq.{length-take-le}
 use Rattle.laws.proofs.Booleans.{was-false}
-use Rattle.script.specs.Numbers.{maxDigits, maxNumber, NumbersRead}
-use Rattle.probe.proofs.InputLaws.{no-entry, no-eight, no-flag, entry-read}
+use Rattle.script.specs.Numbers.{maxDigits, maxNumber, FilledFromLine}
+use Rattle.probe.proofs.InputLaws.{entry-unended, no-eight, no-flag, entry-read}
 use Rattle.probe.proofs.input.entry_line.Statement.{statement}
 use Rattle.probe.proofs.input.entry_line.Tie as tie
 
 returns : tie.Need-returns
-returns c = no-entry _ _ (c .before .find .ensures) (c .if1 .taken)
+returns c = entry-unended _ _ (c .before .find .ensures) (c .if1 .taken)
 
-slice-aggregate-read-numbers : tie.Need-slice-aggregate-read-numbers
-slice-aggregate-read-numbers c = sym (length-take-le _ _ (le-of-lt (c .before .if1 .left)))
+slice-aggregate-fill-from-line : tie.Need-slice-aggregate-fill-from-line
+slice-aggregate-fill-from-line c = sym (length-take-le _ _ (le-of-lt (c .before .if1 .left)))
 
 -- the numbers of the line
-abbrev line-of : tie.After-read-numbers → tie.Else1
+abbrev line-of : tie.After-fill-from-line → tie.Else1
 line-of c = c .before .before .before
 
-abbrev numbers : tie.After-read-numbers → List ℕ
-numbers c = c .read-numbers .last .1 .0
+abbrev numbers : tie.After-fill-from-line → List ℕ
+numbers c = c .fill-from-line .last .1 .0
 
 eight-read :
     (c : tie.Else2)
     → let n = c .before .before in
     let d = line-of n in
-    NumbersRead maxDigits maxNumber (take (d .before .find .result) (d .before .before .before .args .text .now)) (replicate 8 0) (numbers n) true
-eight-read c = let n = c .before .before in rw (not-false (n .read-numbers .result) (c .if2 .left)) at (n .read-numbers .ensures)
+    FilledFromLine maxDigits maxNumber (take (d .before .find .result) (d .before .before .before .args .text .now)) (replicate 8 0) (numbers n) true
+eight-read c = let n = c .before .before in rw (not-false (n .fill-from-line .result) (c .if2 .left)) at (n .fill-from-line .ensures)
 
 returns-2 : tie.Need-returns-2
 returns-2 c =
     let n = c .before .before in
     let d = line-of n in
-    no-eight _ _ (d .before .find .ensures) (d .if1 .left) (was-false (n .read-numbers .ensures .is) (c .if2 .taken))
+    no-eight _ _ (d .before .find .ensures) (d .if1 .left) (was-false (n .fill-from-line .ensures .is) (c .if2 .taken))
 
 returns-3 : tie.Need-returns-3
 returns-3 c =
@@ -58,7 +58,7 @@ entry-line-spec =
     (tie.spec
     (λ c κs. search needs)
     returns
-    slice-aggregate-read-numbers
+    slice-aggregate-fill-from-line
     (λ c. search needs)
     (λ c κs. search needs)
     returns-2

@@ -12,19 +12,19 @@ use Rattle.laws.proofs.Booleans.{was-true, was-false}
 use Rattle.text.specs.Words.{beginsWith}
 use Rattle.text.proofs.WordLaws.{not-longer}
 use Rattle.probe.specs.Words.{machineWord}
-use Rattle.probe.proofs.InputLaws.{no-machine, no-word, no-pair, machine-read}
+use Rattle.probe.proofs.InputLaws.{machine-unended, no-word, no-pair, machine-read}
 use Rattle.probe.proofs.input.first_line.Statement.{statement}
 use Rattle.probe.proofs.input.first_line.Tie as tie
 
 returns : tie.Need-returns
-returns c = no-machine _ _ (c .before .find .ensures) (c .if1 .taken)
+returns c = machine-unended _ _ (c .before .find .ensures) (c .if1 .taken)
 
 slice-aggregate-line : tie.Need-slice-aggregate-line
 slice-aggregate-line c = sym (length-take-le _ _ (le-of-lt (c .before .if1 .left)))
 
 -- the line, and its word
 abbrev line-of : tie.After-begins-with → tie.Else1
-line-of c = c .before .before .before
+line-of c = c .before .before .before .before
 
 abbrev line : tie.After-begins-with → List ℕ
 line c = let d = line-of c in take (d .before .find .result) (d .before .before .before .args .text .now)
@@ -32,11 +32,11 @@ line c = let d = line-of c in take (d .before .find .result) (d .before .before 
 word : (c : tie.Else2) → beginsWith machineWord (line (c .before)) ≡ true
 word c = was-true (c .before .begins-with .ensures) (c .if2 .left)
 
-word-fits : (c : tie.Else2) → 8 ≤ length (line (c .before))
+word-fits : (c : tie.Else2) → length machineWord ≤ length (line (c .before))
 word-fits c = not-longer machineWord _ (word c)
 
 -- the numbers after it
-abbrev word-of : tie.After-read-numbers → tie.Else2
+abbrev word-of : tie.After-fill-from-line → tie.Else2
 word-of c = c .before .before .before
 
 returns-2 : tie.Need-returns-2
@@ -45,25 +45,25 @@ returns-2 c =
     let d = line-of w in
     no-word _ _ (d .before .find .ensures) (d .if1 .left) (was-false (w .begins-with .ensures) (c .if2 .taken))
 
-sub-read-numbers : tie.Need-sub-read-numbers
-sub-read-numbers c = word-fits c
+sub-fill-from-line : tie.Need-sub-fill-from-line
+sub-fill-from-line c = word-fits c
 
-part-read-numbers-start : tie.Need-part-read-numbers-start
-part-read-numbers-start c = word-fits c
+part-fill-from-line-start : tie.Need-part-fill-from-line-start
+part-fill-from-line-start c = word-fits c
 
 returns-3 : tie.Need-returns-3
 returns-3 c =
     let n = c .before .before in
     let w = word-of n in
     let d = line-of (w .before) in
-    no-pair _ _ (d .before .find .ensures) (d .if1 .left) (word w) (was-false (n .read-numbers .ensures .is) (c .if3 .taken))
+    no-pair _ _ (d .before .find .ensures) (d .if1 .left) (word w) (was-false (n .fill-from-line .ensures .is) (c .if3 .taken))
 
 returns-4 : tie.Need-returns-4
 returns-4 c =
     let n = c .before .before in
     let w = word-of n in
     let d = line-of (w .before) in
-    machine-read _ _ (d .before .find .ensures) (d .if1 .left) (word w) _ (rw (not-false (n .read-numbers .result) (c .if3 .left)) at (n .read-numbers .ensures))
+    machine-read _ _ (d .before .find .ensures) (d .if1 .left) (word w) _ (rw (not-false (n .fill-from-line .result) (c .if3 .left)) at (n .fill-from-line .ensures))
 
 pub first-line-spec : {M : Type 1} → statement M
 first-line-spec =
@@ -72,11 +72,10 @@ first-line-spec =
     (λ c κs. search needs)
     returns
     slice-aggregate-line
-    (λ c. search needs)
     (λ c κs. search needs)
     returns-2
-    sub-read-numbers
-    part-read-numbers-start
+    sub-fill-from-line
+    part-fill-from-line-start
     (λ c. search needs)
     (λ c. search needs)
     (λ c κs. search needs)

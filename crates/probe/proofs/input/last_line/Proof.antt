@@ -1,14 +1,15 @@
 -- `last_line` meets its contract: by the line's end, its call, and what follows it.
 use native.Mathlib.Nat.{le-of-lt}
+use native.Mathlib.Omega.{arith}
 use mathlib.Core.Path.{sym, _∙_}
 use borrow.Author.Needs.{needs}
 use lib.Seq.{length-take-le}
-use Rattle.probe.proofs.InputLaws.{no-line, no-call, more-follows, call-read}
+use Rattle.probe.proofs.InputLaws.{call-unended, no-call, more-follows, call-read}
 use Rattle.probe.proofs.input.last_line.Statement.{statement}
 use Rattle.probe.proofs.input.last_line.Tie as tie
 
 returns : tie.Need-returns
-returns c = no-line _ _ (c .before .find .ensures) (c .if1 .taken)
+returns c = call-unended _ _ (c .before .find .ensures) (c .if1 .taken)
 
 slice-aggregate-call-line : tie.Need-slice-aggregate-call-line
 slice-aggregate-call-line c = sym (length-take-le _ _ (le-of-lt (c .before .if1 .left)))
@@ -45,5 +46,6 @@ last-line-spec =
     (λ c. search needs)
     returns-2
     (λ c. search needs)
+    (λ c. omega arith)
     returns-3
     returns-4)

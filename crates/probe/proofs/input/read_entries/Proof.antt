@@ -6,7 +6,7 @@ use borrow.Author.Needs.{needs}
 use lib.ListN.{length}
 use Rattle.laws.proofs.Parts.{from}
 use Rattle.tasks.specs.Limits.{maxTasks}
-use Rattle.probe.specs.Input.{entryOf}
+use Rattle.probe.specs.Input.{entryFrom}
 use Rattle.probe.specs.declared.input.EntryLine.the-variants.{Read}
 use Rattle.probe.proofs.Filling.{Filling, fill-none, filled, no-entry, fits, fill-more}
 use Rattle.probe.proofs.input.read_entries.Statement.{statement}
@@ -46,7 +46,7 @@ at-loop c = in-loop c .before
 entry-is :
     (c : tie.After-task Inv-loop μ-loop)
     → let l = at-loop c in
-    entryOf (from (l .before .before .args .text .now) (l .loop .at)) ≡ Read (c .task .given .0 .0) (c .task .given .0 .1 .0) (c .task .given .0 .1 .1 .0) (c .task .given .0 .1 .1 .1 .0)
+    entryFrom (from (l .before .before .args .text .now) (l .loop .at)) ≡ Read (c .task .given .0 .0) (c .task .given .0 .1 .0) (c .task .given .0 .1 .1 .0) (c .task .given .0 .1 .1 .1 .0)
 entry-is c = sym (c .before .before .entry-line .ensures) ∙ c .task .given .1
 
 entry-fits :

@@ -39,11 +39,17 @@ unfolding callOf callWith
 others c = rw (no-slot (past-slot c), no-finish c)
 
 -- the line where the word of a release is tried, and where that of a join is
+abbrev past-finish : tie.After-begins-with → tie.After-enum-told2
+past-finish c = c .before .before .before
+
 abbrev try-release : tie.After-begins-with → List ℕ
-try-release c = line (past-slot (c .before .before))
+try-release c = line (past-slot (past-finish c))
+
+abbrev past-release : tie.After-begins-with2 → tie.Else1
+past-release c = c .before .before .before
 
 abbrev try-join : tie.After-begins-with2 → List ℕ
-try-join c = try-release (c .before .before .before)
+try-join c = try-release (past-release c .before)
 
 begins-release : (c : tie.Then1) → beginsWith releaseWord (try-release (c .before)) ≡ true
 begins-release c = sym (c .before .begins-with .ensures) ∙ c .if1 .taken
@@ -54,10 +60,10 @@ no-release c = sym (c .before .begins-with .ensures) ∙ c .if1 .left
 begins-join : (c : tie.Then2) → beginsWith joinWord (try-join (c .before)) ≡ true
 begins-join c = sym (c .before .begins-with2 .ensures) ∙ c .if2 .taken
 
-release-fits : (c : tie.Then1) → 8 ≤ length (try-release (c .before))
+release-fits : (c : tie.Then1) → length releaseWord ≤ length (try-release (c .before))
 release-fits c = not-longer releaseWord _ (begins-release c)
 
-join-fits : (c : tie.Then2) → 5 ≤ length (try-join (c .before))
+join-fits : (c : tie.Then2) → length joinWord ≤ length (try-join (c .before))
 join-fits c = not-longer joinWord _ (begins-join c)
 
 returns : tie.Need-returns
@@ -74,21 +80,21 @@ returns-3 : tie.Need-returns-3
 returns-3 c =
     let t = c .before .before in
     c .release-fields .ensures
-    ∙ ap releaseOf (from-drop (try-release (t .before)) 8)
-    ∙ sym (others (t .before .before .before) ∙ rw (begins-release t))
+    ∙ ap releaseOf (from-drop (try-release (t .before)) (length releaseWord))
+    ∙ sym (others (past-finish (t .before)) ∙ rw (begins-release t))
 
 returns-4 : tie.Need-returns-4
 returns-4 c =
     let t = c .before .before in
-    let e = t .before .before .before in
+    let e = past-release (t .before) in
     c .join-fields .ensures
-    ∙ ap joinOf (from-drop (try-join (t .before)) 5)
-    ∙ sym (others (e .before .before .before) ∙ rw (no-release e, begins-join t))
+    ∙ ap joinOf (from-drop (try-join (t .before)) (length joinWord))
+    ∙ sym (others (past-finish (e .before)) ∙ rw (no-release e, begins-join t))
 
 returns-5 : tie.Need-returns-5
 returns-5 c =
-    let e = c .before .before .before in
-    sym (others (e .before .before .before) ∙ rw (no-release e, sym (c .before .begins-with2 .ensures) ∙ c .if2 .left))
+    let e = past-release (c .before) in
+    sym (others (past-finish (e .before)) ∙ rw (no-release e, sym (c .before .begins-with2 .ensures) ∙ c .if2 .left))
 
 pub call-line-spec : {M : Type 1} → statement M
 call-line-spec =
@@ -104,14 +110,12 @@ call-line-spec =
     (λ c. search needs)
     returns-2
     (λ c. search needs)
-    (λ c. search needs)
     (λ c κs. search needs)
     release-fits
     release-fits
     (λ c. search needs)
     (λ c κs. search needs)
     returns-3
-    (λ c. search needs)
     (λ c κs. search needs)
     join-fits
     join-fits

@@ -1,61 +1,43 @@
--- A line that is read as the numbers of an array, one field at a time. Others cite `Reading`, the state between two fields, with `reading-none` and
--- `reading-more`, what the answer says of the line where the reading stops: `no-number`, `last-field` and `fields-left`, and `entry-is`, each entry of
+-- An array that is filled from a line of numbers, one field at a time. Others cite `SoFar`, the state between two fields, with `so-far-none` and
+-- `so-far-more`, what the answer says of the line where the reading stops: `no-number`, `last-field` and `fields-left`, and `entry-is`, each entry of
 -- the array after a line of as many numbers.
 use Prim.Native.Nat.{ℕ, zero, suc, _+_, _-_, _≤_, _<_}
 use native.Mathlib.Numerals.{add-one}
 use native.Mathlib.Omega.{arith}
 use mathlib.Core.Path.{_≡_, refl, sym, _∙_}
-use mathlib.Core.Bool.{true, false, and-false, false≢true}
+use mathlib.Core.Bool.{true, false, false≢true}
 use mathlib.Core.List.{List, [], _∷_, _++_, append-nil, append-assoc}
-use borrow.Author.Tests.{ne-eqb, eqb-true}
+use borrow.Author.Tests.{eqb-true}
 use lib.Dec.{eqb}
 use lib.ListN.{length, getD, set, take, drop, length-set, take-append-drop, drop-of-length-le}
 use lib.Seq.{drop-cons, set-split, take-all, take-suc-set, drop-set-lt}
 use Rattle.laws.proofs.CaseSplits.{by-test}
 use Rattle.laws.proofs.Tests.{same-eqb}
 use Rattle.laws.proofs.Parts.{past, from-length}
-use Rattle.text.specs.Lines.{space, has, before, after, fieldCount, field}
+use Rattle.text.specs.Lines.{space, has, before, after, field}
 use Rattle.text.specs.Number.{decimal, wellFormed, isNumber, numberUpTo}
-use Rattle.text.specs.Fields.{eachNumber, areNumbers}
+use Rattle.text.specs.Fields.{areNumbers}
 use Rattle.text.specs.declared.number.Before.the-variants.{Read, Broken}
 use Rattle.text.proofs.Split.{gone-rest, hasnt-of, cut}
 use Rattle.text.proofs.NumberLaws.{up-to, not-up-to}
-use Rattle.text.proofs.FieldLaws.{count-one, count-more, count-positive}
-use Rattle.script.specs.Numbers.{numbersInto, NumbersRead}
+use Rattle.text.proofs.NumbersOn.{no-numbers, first-none, first-only, first-then}
+use Rattle.script.specs.Numbers.{numbersInto, FilledFromLine}
 
 module _ (k largest : ℕ) where
   -- between two fields: the array's first i entries are done, and the rest of the line goes into the others
-  pub record Reading (line array₀ array rest : List ℕ) (i : ℕ) : Type 0 where
+  pub record SoFar (line array₀ array rest : List ℕ) (i : ℕ) : Type 0 where
     pub few : length rest ≤ length line
     pub size : length array ≡ length array₀
     pub left : areNumbers k largest (length array₀) line ≡ areNumbers k largest (length array₀ - i) rest
     pub done : numbersInto k largest line array₀ ≡ take i array ++ numbersInto k largest rest (drop i array)
 
-  pub reading-none : (line array : List ℕ) → Reading line array array line 0
-  reading-none line array =
+  pub so-far-none : (line array : List ℕ) → SoFar line array array line 0
+  so-far-none line array =
       let z : length array - 0 ≡ length array = omega arith in record { few = omega arith; size = refl; left = rw z; done = refl }
 
-  -- some numbers, by the first field of the line
-  first-none : (m : ℕ) (s : List ℕ) → isNumber k largest (before space s) ≡ false → areNumbers k largest (suc m) s ≡ false
-  unfolding areNumbers eachNumber field
-  first-none m s f = rw f (and-false (eqb (fieldCount s) (suc m)))
-
+  -- a line of one number or more begins with one
   first-is : (m : ℕ) (s : List ℕ) → areNumbers k largest (suc m) s ≡ true → isNumber k largest (before space s) ≡ true
-  first-is m s e = by-test (isNumber k largest (before space s)) (λ t. t) (λ f. absurd (false≢true (sym (first-none m s f) ∙ e)))
-
-  first-only :
-      (m : ℕ) (s : List ℕ) → has space s ≡ false → isNumber k largest (before space s) ≡ true → areNumbers k largest (suc m) s ≡ eqb (suc m) 1
-  unfolding areNumbers eachNumber field
-  first-only zero s h t = rw (count-one s h, t)
-  first-only (suc m) s h t = rw (count-one s h, ne-eqb 1 (suc (suc m)) (λ e. omega arith), ne-eqb (suc (suc m)) 1 (λ e. omega arith))
-
-  first-then :
-      (m : ℕ) (s : List ℕ) → has space s ≡ true → isNumber k largest (before space s) ≡ true
-      → areNumbers k largest (suc m) s ≡ areNumbers k largest m (after space s)
-  unfolding areNumbers eachNumber field
-  first-then m s h t =
-      let n = fieldCount (after space s) in
-      rw (count-more s h, t, same-eqb (suc n) (suc m) n m (λ e. omega arith) (λ e. omega arith))
+  first-is m s e = by-test (isNumber k largest (before space s)) (λ t. t) (λ f. absurd (false≢true (sym (first-none k largest m s f) ∙ e)))
 
   -- nothing goes into an array where no field is left
   into-none : (a : List ℕ) → numbersInto k largest [] a ≡ a
@@ -73,22 +55,22 @@ module _ (k largest : ℕ) where
       let t = first-is (length a) line e in
       rw t
       (by-test (has space line)
-      (λ m. number-at (after space line) a (sym (first-then (length a) line m t) ∙ e) j (omega arith))
-      (λ m. absurd (omega (arith, eqb-true (suc (length a)) 1 (sym (first-only (length a) line m t) ∙ e)))))
+      (λ m. number-at (after space line) a (sym (first-then k largest (length a) line m t) ∙ e) j (omega arith))
+      (λ m. absurd (omega (arith, eqb-true (suc (length a)) 1 (sym (first-only k largest (length a) line m t) ∙ e)))))
 
   pub entry-is :
-      (line array after : List ℕ) → NumbersRead k largest line array after true → (j : ℕ) → j < length array → getD after j 0 ≡ decimal (field j line)
-  entry-is line array after p j h = rw (p .read) (number-at line array (sym (p .is)) j h)
+      (line array after : List ℕ) → FilledFromLine k largest line array after true → (j : ℕ) → j < length array → getD after j 0 ≡ decimal (field j line)
+  entry-is line array after p j h = rw (p .filled) (number-at line array (sym (p .is)) j h)
 
-  module _ (line array₀ array rest : List ℕ) (i : ℕ) (p : Reading line array₀ array rest i) where
+  module _ (line array₀ array rest : List ℕ) (i : ℕ) (p : SoFar line array₀ array rest i) where
     -- the array is full, and there is another field
-    pub fields-left : length array ≤ i → NumbersRead k largest line array₀ array false
-    unfolding areNumbers numbersInto
+    pub fields-left : length array ≤ i → FilledFromLine k largest line array₀ array false
+    unfolding numbersInto
     fields-left h =
         let z : length array₀ - i ≡ 0 = omega (arith, p .size) in
         record {
-          is = sym (p .left ∙ rw (z, ne-eqb (fieldCount rest) 0 (λ e. omega (arith, count-positive rest))));
-          read = sym (p .done ∙ rw (drop-of-length-le array h, append-nil) (take-all i array h));
+          is = sym (p .left ∙ rw (z, no-numbers k largest rest));
+          filled = sym (p .done ∙ rw (drop-of-length-le array h, append-nil) (take-all i array h));
         }
 
     -- the array has room for the next field
@@ -96,13 +78,13 @@ module _ (k largest : ℕ) where
       another : length array₀ - i ≡ suc (length array₀ - (i + 1))
       another = omega (arith, p .size)
 
-      pub no-number : numberUpTo k largest space rest ≡ Broken → NumbersRead k largest line array₀ array false
+      pub no-number : numberUpTo k largest space rest ≡ Broken → FilledFromLine k largest line array₀ array false
       unfolding numbersInto field
       no-number e =
           let f = not-up-to k largest space rest e in
           record {
-            is = sym (p .left ∙ rw another (first-none (length array₀ - (i + 1)) rest f));
-            read = sym (p .done ∙ rw (drop-cons array i 0 h, f, ← drop-cons array i 0 h) (take-append-drop i array));
+            is = sym (p .left ∙ rw another (first-none k largest (length array₀ - (i + 1)) rest f));
+            filled = sym (p .done ∙ rw (drop-cons array i 0 h, f, ← drop-cons array i 0 h) (take-append-drop i array));
           }
 
       -- which is a number of b bytes
@@ -111,25 +93,25 @@ module _ (k largest : ℕ) where
         unfolding numbersInto field
         one-more = let w = up-to k largest space rest n b e .0 in p .done ∙ rw (drop-cons array i 0 h, w .is, w .value)
 
-        pub last-field : length rest ≤ b → NumbersRead k largest line array₀ (set array i n) (eqb (i + 1) (length (set array i n)))
+        pub last-field : length rest ≤ b → FilledFromLine k largest line array₀ (set array i n) (eqb (i + 1) (length (set array i n)))
         last-field l =
             let (w, c) = up-to k largest space rest n b e in
             let m = length array₀ - (i + 1) in
             let only = hasnt-of space rest (omega (arith, c)) in
-            let is : areNumbers k largest (length array₀) line ≡ eqb (suc m) 1 = p .left ∙ rw another (first-only m rest only (w .is)) in
+            let is : areNumbers k largest (length array₀) line ≡ eqb (suc m) 1 = p .left ∙ rw another (first-only k largest m rest only (w .is)) in
             record {
               is = rw (length-set array i n) (sym (is ∙ same-eqb (suc m) 1 (i + 1) (length array) (λ q. omega (arith, p .size)) (λ q. omega (arith, p .size))));
-              read = set-split array i n h ∙ sym (one-more ∙ rw (gone-rest space rest only, into-none (drop (suc i) array)));
+              filled = set-split array i n h ∙ sym (one-more ∙ rw (gone-rest space rest only, into-none (drop (suc i) array)));
             }
 
-        pub reading-more : b < length rest → Reading line array₀ (set array i n) (past rest b) (i + 1)
-        reading-more l =
+        pub so-far-more : b < length rest → SoFar line array₀ (set array i n) (past rest b) (i + 1)
+        so-far-more l =
             let (w, c) = up-to k largest space rest n b e in
             let d = cut space rest b c l in
             record {
               few = omega (arith, p .few, from-length rest (b + 1));
               size = length-set array i n ∙ p .size;
-              left = rw (d .rest) (p .left ∙ rw another (first-then (length array₀ - (i + 1)) rest (d .is) (w .is)));
+              left = rw (d .rest) (p .left ∙ rw another (first-then k largest (length array₀ - (i + 1)) rest (d .is) (w .is)));
               done =
                   one-more
                   ∙ sym

@@ -1,4 +1,4 @@
--- `read_numbers` meets its contract. The invariant: the array's first entries are done, and the rest of the line goes into the others.
+-- `fill_from_line` meets its contract. The invariant: the array's first entries are done, and the rest of the line goes into the others.
 use Prim.Native.Nat.{_-_}
 use native.Mathlib.Omega.{arith}
 use mathlib.Core.Path.{_≡_, sym, _∙_}
@@ -7,18 +7,18 @@ use lib.ListN.{length, length-set}
 use Rattle.text.specs.Lines.{space}
 use Rattle.text.specs.Number.{numberUpTo}
 use Rattle.text.specs.declared.number.Before.the-variants.{Read}
-use Rattle.script.proofs.NumbersRead.{Reading, reading-none, reading-more, no-number, last-field, fields-left}
-use Rattle.script.proofs.numbers.read_numbers.Statement.{statement}
-use Rattle.script.proofs.numbers.read_numbers.Tie as tie
+use Rattle.script.proofs.FilledFromLine.{SoFar, so-far-none, so-far-more, no-number, last-field, fields-left}
+use Rattle.script.proofs.numbers.fill_from_line.Statement.{statement}
+use Rattle.script.proofs.numbers.fill_from_line.Tie as tie
 
 abbrev Inv-loop : tie.InvT-loop
-Inv-loop line numbers₀ digits largest rest₀ i₀ numbers rest i = Reading digits largest line numbers₀ numbers rest i
+Inv-loop line numbers₀ digits largest rest₀ i₀ numbers rest i = SoFar digits largest line numbers₀ numbers rest i
 
 abbrev μ-loop : tie.MeasureT-loop
 μ-loop line numbers₀ digits largest rest₀ i₀ numbers rest i = length numbers - i
 
 loop-holds : tie.Need-loop-holds Inv-loop μ-loop
-loop-holds c = reading-none _ _ _ _
+loop-holds c = so-far-none _ _ _ _
 
 same-length : tie.Need-same-length Inv-loop μ-loop
 same-length c = c .before .before .before .before .loop .inv .size
@@ -70,7 +70,7 @@ loop-again c =
     let e = c .before in
     let n = e .before .before in
     let t = n .before .before .before in
-    reading-more _ _ _ _ _ _ _ (t .before .loop .inv) (t .loop-test .taken) _ _ (read-is n) (e .if1 .left)
+    so-far-more _ _ _ _ _ _ _ (t .before .loop .inv) (t .loop-test .taken) _ _ (read-is n) (e .if1 .left)
 
 same-length-3 : tie.Need-same-length-3 Inv-loop μ-loop
 same-length-3 c = c .before .loop .inv .size
@@ -78,8 +78,8 @@ same-length-3 c = c .before .loop .inv .size
 returns-3 : tie.Need-returns-3 Inv-loop μ-loop
 returns-3 c = fields-left _ _ _ _ _ _ _ (c .before .loop .inv) (c .loop-test .left)
 
-pub read-numbers-spec : {M : Type 1} → statement M
-read-numbers-spec =
+pub fill-from-line-spec : {M : Type 1} → statement M
+fill-from-line-spec =
     tie.close
     (tie.spec
     Inv-loop
