@@ -1,4 +1,4 @@
-// Bytes of a text: where one is, what a text begins with, and whether two texts are the same.
+// Bytes of a text: where one is, the field before it, what a text begins with, and whether two texts are the same.
 ghost use mathlib.Core.Path.{_≡_};
 ghost use lib.ListN.{length};
 ghost use Rattle.text.specs.Lines.{before};
@@ -16,6 +16,14 @@ pub fn find(text: &[u8], byte: u8) -> usize
         i += 1;
     }
     i
+}
+
+// The field that stands before the first byte `end` of a text, or is all of the text where there is none.
+pub fn field_up_to(text: &[u8], end: u8) -> &[u8]
+    ensures { λ r. ⌜ now r ≡ before end (now (text .entry)) ⌝ }
+{
+    let length = find(text, end);
+    &text[..length]
 }
 
 // Whether two texts have the same bytes.
