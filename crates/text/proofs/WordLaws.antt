@@ -5,7 +5,7 @@ use Prim.Native.Nat.{ℕ, suc, _+_, _≤_, _<_}
 use native.Mathlib.Numerals.{add-one}
 use native.Mathlib.Omega.{arith}
 use mathlib.Core.Path.{_≡_, refl, sym, ap}
-use mathlib.Core.Bool.{true, false, _&&_, false≢true, and-true, and-false, and-assoc}
+use mathlib.Core.Bool.{Bool, true, false, _&&_, false≢true, and-true, and-false, and-assoc}
 use mathlib.Core.List.{List, [], _∷_, _++_}
 use borrow.Author.Tests.{eq-eqb, ne-eqb, eqb-true}
 use lib.Dec.{eqb}
@@ -31,13 +31,15 @@ other-length s t n = by-test (sameBytes s t) (λ e. absurd (n (same-length s t e
 
 -- two texts as long as each other, at a place that both have, and past the last
 module _ (s t : List ℕ) (i : ℕ) (e : length s ≡ length t) where
-  pub differ-at : i < length s → (getD s i 0 ≡ getD t i 0 → ⊥) → sameBytes (drop i s) (drop i t) ≡ false
+  -- with what the bytes so far came to
+  pub same-next :
+      i < length s → (so-far : Bool)
+      → (so-far && sameBytes (drop i s) (drop i t))
+      ≡ (so-far && eqb (getD s i 0) (getD t i 0) && sameBytes (drop (i + 1) s) (drop (i + 1) t))
   unfolding sameBytes
-  differ-at h n = rw (drop-cons s i 0 h, drop-cons t i 0 (omega arith), ne-eqb (getD s i 0) (getD t i 0) n)
-
-  pub agree-at : i < length s → getD s i 0 ≡ getD t i 0 → sameBytes (drop i s) (drop i t) ≡ sameBytes (drop (i + 1) s) (drop (i + 1) t)
-  unfolding sameBytes
-  agree-at h q = rw (add-one, drop-cons s i 0 h, drop-cons t i 0 (omega arith), eq-eqb (getD s i 0) (getD t i 0) q)
+  same-next h so-far =
+      rw (add-one, drop-cons s i 0 h, drop-cons t i 0 (omega arith))
+      (sym (and-assoc so-far (eqb (getD s i 0) (getD t i 0)) (sameBytes (drop (suc i) s) (drop (suc i) t))))
 
   pub all-agree : length s ≤ i → sameBytes (drop i s) (drop i t) ≡ true
   unfolding sameBytes

@@ -26,21 +26,20 @@ pub fn field_up_to(text: &[u8], end: u8) -> &[u8]
     &text[..length]
 }
 
-// Whether two texts have the same bytes.
+// Whether two texts have the same bytes. All of them are compared, without a way out at the first that differ, so that the compiler can take several at once.
 pub fn same(a: &[u8], b: &[u8]) -> bool
     ensures { λ r. ⌜ r ≡ sameBytes (now (a .entry)) (now (b .entry)) ⌝ }
 {
     if a.len() != b.len() {
         return false;
     }
+    let mut equal = true;
     let mut i: usize = 0;
     while i < a.len() {
-        if a[i] != b[i] {
-            return false;
-        }
+        equal = equal & (a[i] == b[i]);
         i += 1;
     }
-    true
+    equal
 }
 
 // Whether a text begins with a word.
