@@ -70,20 +70,17 @@ pub fn names_line(text: &[u8]) -> NamesLine
     ensures { λ r. ⌜ r ≡ namesLine (now (text .entry)) ⌝ }
 {
     let first = bytes::field_up_to(text, b' ');
-    let a = first.len();
-    if text.len() <= a {
+    if text.len() <= first.len() {
         return NamesLine::Broken;
     }
-    let rest = &text[a + 1..];
+    let rest = &text[first.len() + 1..];
     let second = bytes::field_up_to(rest, b' ');
-    let b = second.len();
-    if rest.len() <= b {
+    if rest.len() <= second.len() {
         return NamesLine::Broken;
     }
-    let last = &rest[b + 1..];
+    let last = &rest[second.len() + 1..];
     let third = bytes::field_up_to(last, b'\n');
-    let c = third.len();
-    if last.len() <= c {
+    if last.len() <= third.len() {
         return NamesLine::Broken;
     }
     let columns = columns_in(first, second, third);
@@ -92,6 +89,6 @@ pub fn names_line(text: &[u8]) -> NamesLine
     }
     NamesLine::Read {
         columns,
-        length: a + 1 + b + 1 + c + 1,
+        length: first.len() + 1 + second.len() + 1 + third.len() + 1,
     }
 }
