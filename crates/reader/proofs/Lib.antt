@@ -1,5 +1,4 @@
 pub mod Naming
-pub mod Spelling
 pub mod NamesLine
 pub mod ValueScan
 pub mod ValueLine

@@ -1,78 +1,159 @@
--- What the names line of a text s is where its reader stops, by the names that it finds: `no-first`, `no-second`, `name-twice`, `no-third` and `all-three`, with
--- `first-fits` and `second-fits`; and what it says of a text: `names-read`, `names-broken`.
-use Prim.Native.Nat.{ℕ, _+_, _-_, _≤_}
+-- What the names line of a text s is where its reader stops, by the fields that it cuts out: `no-first`, `no-second`, `no-end`, `no-names` and `all-three`; and
+-- what it says of a text: `names-read`, `names-broken`.
+use Prim.Native.Nat.{ℕ, _+_, _≤_, _<_}
 use native.Mathlib.Omega.{arith}
-use mathlib.Core.Path.{_≡_, sym, ap, _∙_}
-use mathlib.Core.Bool.{true, false}
-use mathlib.Core.List.{List, _∷_, _++_}
+use mathlib.Core.Path.{_≡_, refl, sym, ap, _∙_}
+use mathlib.Core.Bool.{true, false, _&&_}
+use mathlib.Core.List.{List}
+use borrow.Author.Tests.{eq-eqb, eqb-true}
+use lib.Dec.{eqb}
 use lib.ListN.{length}
-use Rattle.laws.proofs.CaseSplits.{by-test, by-cond, clash}
-use Rattle.laws.proofs.Booleans.{and-left}
-use Rattle.laws.proofs.Parts.{from, from-drop}
-use Rattle.text.specs.Lines.{lineEnd, space, has, before, after}
-use Rattle.text.proofs.Split.{here}
+use Rattle.laws.proofs.CaseSplits.{by-test, by-cond, not-both, clash}
+use Rattle.laws.proofs.Booleans.{and-left, and-right}
+use Rattle.laws.proofs.Parts.{from, past, from-drop}
+use Rattle.text.specs.Lines.{lineEnd, space, has, before, after, field, fieldCount}
+use Rattle.text.proofs.Split.{here, gone, hasnt-of, cut}
+use Rattle.text.proofs.FieldLaws.{count-one}
+use Rattle.text.proofs.CutFields.{FirstField, cut-field, more-fields, last-field}
 use Rattle.reader.specs.declared.names.Columns.{Columns}
 use Rattle.reader.specs.declared.names.NamesLine.the-variants.{Read, Broken}
-use Rattle.reader.specs.Names.{columnsOf, threeNames, beginsWithNames}
+use Rattle.reader.specs.Names.{columnsIn, columnsOf, eachNamed, threeNames, beginsWithNames}
 use Rattle.reader.specs.Parts.{namesLine}
-use Rattle.reader.proofs.Naming.{name, nameAt, fieldLength, At, at-name, Order}
-use Rattle.reader.proofs.Spelling.{secondName, thirdName, FoundThree, spelling, columns, in-columns}
+use Rattle.reader.proofs.Naming.{none-in}
 
--- no names line: what the code finds is not the three names once each
-broken : (s : List ℕ) → (FoundThree s → ⊥) → Broken ≡ namesLine s
-unfolding namesLine
-broken s n = by-test (beginsWithNames s) (λ t. absurd (n (spelling s t))) (λ t. rw t)
+-- the fields of the line that a text begins with are those that are cut out of the text
+record ThreeFields (s : List ℕ) : Type 0 where
+  first : FirstField s
+  second : FirstField (after space s)
+  third : has space (before lineEnd (after space (after space s))) ≡ false
 
--- the first name was looked for, and a was found
-module _ (s : List ℕ) (a : ℕ) (e : a ≡ nameAt space s) where
-  pub no-first : a ≡ 3 → Broken ≡ namesLine s
-  no-first h = broken s (λ o. omega (arith, e, o .first))
+module _ (s : List ℕ) where
+  abbrev line : List ℕ
+  line = before lineEnd s
 
-  -- a name, which has n bytes with its space
-  module _ (h : a ≡ 3 → ⊥) (n : ℕ) (l : n ≡ fieldLength a) where
-    first : At space a s
-    first = at-name space a s e h
+  -- what stands after the first space, and after the second
+  abbrev rest : List ℕ
+  rest = after space s
 
-    pub first-fits : n ≤ length s
-    first-fits = omega (arith, l, first .fits)
+  abbrev last : List ℕ
+  last = after space rest
 
-    -- the second name was looked for, and b was found
-    module _ (b : ℕ) (e₁ : b ≡ nameAt space (from s n)) where
-      second-is : b ≡ secondName s
-      second-is = e₁ ∙ rw (l, e)
+  -- the columns of the fields that are cut out
+  abbrev cutColumns : Columns
+  cutColumns = columnsIn (before space s) (before space rest) (before lineEnd last)
 
-      pub no-second : b ≡ 3 → Broken ≡ namesLine s
-      no-second h₁ = broken s (λ o. omega (arith, second-is, o .second))
+  three-fields : fieldCount line ≡ 3 → ThreeFields s
+  three-fields c =
+      let one = more-fields s 1 c in
+      let two = more-fields rest 0 (omega (arith, c, one .count)) in
+      record { first = one; second = two; third = last-field (before lineEnd last) (omega (arith, c, one .count, two .count)) }
 
-      pub name-twice : b ≡ a → Broken ≡ namesLine s
-      name-twice q = broken s (λ o. o .other (sym second-is ∙ q ∙ e))
+  module _ (t : ThreeFields s) where
+    columns-are : columnsOf line ≡ cutColumns
+    unfolding columnsOf field
+    columns-are =
+        rw (t .first .first, t .first .rest, t .second .first, t .second .rest, gone space (before lineEnd last) (t .third))
 
-      -- another name, which has m bytes with its space
-      module _ (h₁ : b ≡ 3 → ⊥) (other : b ≡ a → ⊥) (m : ℕ) (l₁ : m ≡ fieldLength b) where
-        second : At space b (from s n)
-        second = at-name space b (from s n) e₁ h₁
+    three : fieldCount line ≡ 3
+    three = omega (arith, t .first .count, t .second .count, count-one (before lineEnd last) (t .third))
 
-        pub second-fits : m ≤ length (from s n)
-        second-fits = omega (arith, l₁, second .fits)
+    is-ended : has lineEnd s ≡ has lineEnd last
+    is-ended = t .first .is-ended ∙ t .second .is-ended
 
-        -- the third name was looked for, and c was found: the one that is left, or not
-        module _ (c : ℕ) (e₂ : c ≡ nameAt lineEnd (from (from s n) m)) where
-          third-is : c ≡ thirdName s
-          third-is = e₂ ∙ rw (l₁, second-is, l, e)
+  -- what the reader finds in a text that begins with a names line
+  record Found : Type 0 where
+    fields : ThreeFields s
+    ended : has lineEnd last ≡ true
+    named : eachNamed cutColumns ≡ true
 
-          pub no-third : (c ≡ 3 - a - b → ⊥) → Broken ≡ namesLine s
-          no-third g = broken s (λ o. omega (arith, e, second-is, third-is, o .sum, first .known, second .known))
+  found : beginsWithNames s ≡ true → Found
+  unfolding beginsWithNames threeNames
+  found t =
+      let count = eqb (fieldCount line) 3 in
+      let each = eachNamed (columnsOf line) in
+      let i = and-left (has lineEnd s) (count && each) t in
+      let j = and-right (has lineEnd s) (count && each) t in
+      let f = three-fields (eqb-true (fieldCount line) 3 (and-left count each j)) in
+      record { fields = f; ended = sym (is-ended f) ∙ i; named = rw (← columns-are f) (and-right count each j) }
 
-          pub all-three : c ≡ 3 - a - b → Read (columns a b) 23 ≡ namesLine s
-          all-three g =
-              let third = at-name lineEnd c (from (from s n) m) e₂ (λ q. omega (arith, first .known, second .known)) in
-              let o : Order a b c = omega (arith, first .known, second .known) in
-              let u = from (from (from s n) m) (fieldLength c) in
-              let w : from (from s n) m ≡ name c ++ lineEnd ∷ u = third .whole in
-              let v : from s n ≡ name b ++ space ∷ (name c ++ lineEnd ∷ u) =
-              second .whole ∙ ap (λ (r : List ℕ). name b ++ space ∷ r) (rw (← l₁) w)
-              in
-              in-columns a b c u o ∙ ap namesLine (sym (first .whole ∙ ap (λ (r : List ℕ). name a ++ space ∷ r) (rw (← l) v)))
+  broken : (Found → ⊥) → Broken ≡ namesLine s
+  unfolding namesLine
+  broken n = by-test (beginsWithNames s) (λ t. absurd (n (found t))) (λ t. rw t)
+
+  -- the first field is f: a space follows it, or the text ends
+  module _ (f : List ℕ) (e : f ≡ before space s) where
+    pub no-first : length s ≤ length f → Broken ≡ namesLine s
+    no-first l = broken (λ n. not-both (has space s) (n .fields .first .there) (hasnt-of space s (rw e at l)))
+
+    -- the second field is g
+    module _ (l : length f < length s) (g : List ℕ) (e₁ : g ≡ before space (past s (length f))) where
+      rest-is : past s (length f) ≡ rest
+      rest-is = cut space s (length f) (ap length e) l .rest
+
+      pub no-second : length (past s (length f)) ≤ length g → Broken ≡ namesLine s
+      no-second k =
+          broken (λ n. not-both (has space rest) (n .fields .second .there) (rw (← rest-is) (hasnt-of space (past s (length f)) (rw e₁ at k))))
+
+      -- the third field is h: the byte 10 follows it, or the text ends
+      module _ (k : length g < length (past s (length f))) (h : List ℕ) (e₂ : h ≡ before lineEnd (past (past s (length f)) (length g))) where
+        abbrev left : List ℕ
+        left = past (past s (length f)) (length g)
+
+        last-is : left ≡ last
+        last-is = cut space (past s (length f)) (length g) (ap length e₁) k .rest ∙ ap (after space) rest-is
+
+        pub no-end : length left ≤ length h → Broken ≡ namesLine s
+        no-end j = broken (λ n. not-both (has lineEnd last) (n .ended) (rw (← last-is) (hasnt-of lineEnd left (rw e₂ at j))))
+
+        module _ (j : length h < length left) (c : Columns) (q : c ≡ columnsIn f g h) where
+          second-is : g ≡ before space rest
+          second-is = e₁ ∙ ap (before space) rest-is
+
+          third-is : h ≡ before lineEnd last
+          third-is = e₂ ∙ ap (before lineEnd) last-is
+
+          columns-cut : c ≡ cutColumns
+          columns-cut = q ∙ rw (e, second-is, third-is)
+
+          pub no-names : eachNamed c ≡ false → Broken ≡ namesLine s
+          no-names x = broken (λ n. not-both (eachNamed cutColumns) (n .named) (rw (← columns-cut) x))
+
+          module _ (x : eachNamed c ≡ true) where
+            three-cut : ThreeFields s
+            unfolding has
+            three-cut =
+                let t : eachNamed (columnsIn f g h) ≡ true = rw q at x in
+                let ends = none-in f g h t lineEnd refl refl refl in
+                let spaces = none-in f g h t space refl refl refl in
+                record {
+                  first = cut-field s (cut space s (length f) (ap length e) l .is) (rw (← e) (ends .first));
+                  second =
+                      cut-field rest (rw (← rest-is) (cut space (past s (length f)) (length g) (ap length e₁) k .is))
+                      (rw (← second-is) (ends .second));
+                  third = rw (← third-is) (spaces .third);
+                }
+
+            ended-cut : has lineEnd s ≡ true
+            ended-cut = is-ended three-cut ∙ rw (← last-is) (cut lineEnd left (length h) (ap length e₂) j .is)
+
+            is : beginsWithNames s ≡ true
+            unfolding beginsWithNames threeNames
+            is = rw (ended-cut, eq-eqb (fieldCount line) 3 (three three-cut), columns-are three-cut, ← columns-cut) x
+
+            size : length line + 1 ≡ length f + 1 + length g + 1 + length h + 1
+            size =
+                omega (
+                  arith,
+                  three-cut .first .size,
+                  three-cut .second .size,
+                  ap length e,
+                  ap length second-is,
+                  ap length third-is,
+                )
+
+            pub all-three : Read c (length f + 1 + length g + 1 + length h + 1) ≡ namesLine s
+            unfolding namesLine
+            all-three = rw (is, columns-are three-cut, ← columns-cut, size)
 
 -- a names line that was read, and none
 pub record NamesRead (s : List ℕ) (k : Columns) (n : ℕ) : Type 0 where

@@ -7,16 +7,16 @@ use mathlib.Core.Path.{_≡_, refl, sym, _∙_}
 use mathlib.Core.Bool.{Bool, true, false, cond, _&&_, and-false}
 use mathlib.Core.List.{List, [], _∷_}
 use borrow.Author.Tests.{ltb-true}
-use lib.Dec.{eqb, ltb}
+use lib.Dec.{ltb}
 use lib.ListN.{length, getD, set}
 use Rattle.laws.proofs.CaseSplits.{by-test, not-both}
-use Rattle.laws.proofs.Booleans.{and-left, and-right, both-ways}
+use Rattle.laws.proofs.Booleans.{and-left, and-right}
 use Rattle.laws.proofs.Parts.{from, past, from-drop, from-length}
 use Rattle.text.specs.Lines.{lineEnd, space, has, before, after, field}
 use Rattle.text.specs.Number.{isDigit, decimal, numberUpTo}
 use Rattle.text.specs.Fields.{areThree}
 use Rattle.text.specs.declared.number.Before.the-variants.{Read}
-use Rattle.text.proofs.Split.{here, has-after, cut}
+use Rattle.text.proofs.Split.{here, has-past, cut}
 use Rattle.text.proofs.NumberLaws.{no-other}
 use Rattle.text.proofs.NumbersOn.{numbersOn, are-three, on-line}
 use Rattle.text.proofs.ThreeNumbers as Three
@@ -63,15 +63,6 @@ module _ (b : ℕ) (s : List ℕ) (r : ℕ) (e : r ≡ cond (valueUpTo b s) (len
       })
       (λ t. absurd (n (e ∙ rw t)))
 
--- a byte after the first b is one of the text
-has-of-after : (b e : ℕ) (s : List ℕ) → has e (after b s) ≡ true → has e s ≡ true
-unfolding has after
-has-of-after b e [] h = h
-has-of-after b e (x ∷ s) h =
-    by-test (eqb x e)
-    (λ p. rw p)
-    (λ p. by-test (eqb x b) (λ q. rw p (rw q at h)) (λ q. rw p (has-of-after b e s (rw q at h))))
-
 -- no value has a byte 10: one after the space that ends a value is that of the text
 same-end : (s : List ℕ) → valueUpTo space s ≡ true → has lineEnd s ≡ has lineEnd (after space s)
 unfolding isDigit
@@ -82,9 +73,7 @@ same-end s t =
     (λ h. not-both (isValue (before space s)) v (sym (value-number (before space s)) ∙ no-other 7 largest lineEnd refl (before space s) h))
     (λ h. h)
     in
-    both-ways (has lineEnd s) (has lineEnd (after space s))
-    (λ h. has-after space lineEnd s refl (and-left (has space s) (isValue (before space s)) t) h none)
-    (has-of-after space lineEnd s)
+    has-past space lineEnd s refl (and-left (has space s) (isValue (before space s)) t) none
 
 -- the first of some values on a line, which is ended
 first-value :

@@ -21,7 +21,7 @@ pub struct Reading {
 }
 
 // A refused reading.
-fn refusal(number: u32, place: u32) -> Reading
+fn refused_reading(number: u32, place: u32) -> Reading
     ensures { λ r. ⌜ r ≡ refused number place ⌝ }
 {
     let table = Table::empty();
@@ -69,6 +69,6 @@ pub fn read(text: &[u8]) -> Reading
                 outcome: Outcome::Done,
             }
         }
-        Counted::Refused { number, place } => refusal(number, place),
+        Counted::Refused { number, place } => refused_reading(number, place),
     }
 }

@@ -1,24 +1,8 @@
 // The names line: which column has the periods, the budgets and the deadlines.
 use text::bytes;
 ghost use mathlib.Core.Path.{_≡_};
-ghost use mathlib.Core.Bool.{cond};
-ghost use mathlib.Core.List.{[], _∷_, _++_};
-ghost use lib.Dec.{eqb};
-ghost use Rattle.text.specs.Words.{beginsWith};
-ghost use Rattle.reader.specs.Names.{periodName, budgetName, deadlineName};
+ghost use Rattle.reader.specs.Names.{columnIn, columnsIn, eachNamed};
 ghost use Rattle.reader.specs.Parts.{namesLine};
-
-// The names as numbers, whose sum is 3: it tells the third of them from two.
-const PERIOD: usize = 0;
-
-const BUDGET: usize = 1;
-
-const DEADLINE: usize = 2;
-
-const NO_NAME: usize = 3;
-
-// The three names, two spaces and the byte 10.
-const LINE_LENGTH: usize = 23;
 
 // Where each value stands in a line of values, from 0.
 pub struct Columns {
@@ -27,96 +11,84 @@ pub struct Columns {
     pub deadline: usize,
 }
 
+// The column of a name that no field is.
+const NO_COLUMN: usize = 3;
+
+impl Columns {
+    // Whether each name is one of the three fields.
+    fn complete(self) -> bool
+        ensures { λ r. ⌜ r ≡ eachNamed self ⌝ }
+    {
+        if NO_COLUMN <= self.period {
+            return false;
+        }
+        if NO_COLUMN <= self.budget {
+            return false;
+        }
+        self.deadline < NO_COLUMN
+    }
+}
+
 // A names line with its byte 10 is `length` bytes long.
 pub enum NamesLine {
     Read { columns: Columns, length: usize },
     Broken,
 }
 
-// Whether a text begins with a name and the byte `end` right after it.
-fn is_field(text: &[u8], name: &[u8], end: u8) -> bool
-    ensures { λ r. ⌜ r ≡ beginsWith (now (name .entry) ++ end ∷ []) (now (text .entry)) ⌝ }
+// Which of three fields, from 0, is the name.
+fn column_in(name: &[u8], first: &[u8], second: &[u8], third: &[u8]) -> usize
+    ensures { λ r. ⌜ r ≡ columnIn (now (name .entry)) (now (first .entry)) (now (second .entry)) (now (third .entry)) ⌝ }
 {
-    let length = name.len();
-    if text.len() <= length {
-        return false;
-    }
-    if text[length] != end {
-        return false;
-    }
-    bytes::same(&text[..length], name)
-}
-
-// Which name a text begins with, the byte `end` right after it.
-fn name_at(text: &[u8], end: u8) -> usize
-    ensures { λ r. ⌜ r ≡ cond (beginsWith (periodName ++ end ∷ []) (now (text .entry))) 0
-        (cond (beginsWith (budgetName ++ end ∷ []) (now (text .entry))) 1
-        (cond (beginsWith (deadlineName ++ end ∷ []) (now (text .entry))) 2 3)) ⌝ }
-{
-    if is_field(text, b"PERIOD", end) {
-        return PERIOD;
-    }
-    if is_field(text, b"BUDGET", end) {
-        return BUDGET;
-    }
-    if is_field(text, b"DEADLINE", end) {
-        return DEADLINE;
-    }
-    NO_NAME
-}
-
-// How many bytes a name and the byte after it have.
-fn field_length(name: usize) -> usize
-    ensures { λ r. ⌜ r ≡ cond (eqb name 2) 9 7 ⌝ }
-{
-    if name == DEADLINE {
-        return 9;
-    }
-    7
-}
-
-// Where a name stands, by the first two of the three: from 0.
-fn column_of(name: usize, first: usize, second: usize) -> usize
-    ensures { λ r. ⌜ r ≡ cond (eqb first name) 0 (cond (eqb second name) 1 2) ⌝ }
-{
-    if first == name {
+    if bytes::same(first, name) {
         return 0;
     }
-    if second == name {
+    if bytes::same(second, name) {
         return 1;
     }
-    2
+    if bytes::same(third, name) {
+        return 2;
+    }
+    NO_COLUMN
 }
 
-// The names line that a text begins with.
+// Which of three fields is each name.
+fn columns_in(first: &[u8], second: &[u8], third: &[u8]) -> Columns
+    ensures { λ r. ⌜ r ≡ columnsIn (now (first .entry)) (now (second .entry)) (now (third .entry)) ⌝ }
+{
+    let period = column_in(b"PERIOD", first, second, third);
+    let budget = column_in(b"BUDGET", first, second, third);
+    let deadline = column_in(b"DEADLINE", first, second, third);
+    Columns {
+        period,
+        budget,
+        deadline,
+    }
+}
+
+// The names line that a text begins with: its fields are cut out of the text, two up to a space and one up to the byte 10.
 pub fn names_line(text: &[u8]) -> NamesLine
     ensures { λ r. ⌜ r ≡ namesLine (now (text .entry)) ⌝ }
 {
-    let first = name_at(text, b' ');
-    if first == NO_NAME {
+    let first = bytes::field_up_to(text, b' ');
+    if text.len() <= first.len() {
         return NamesLine::Broken;
     }
-    let rest = &text[field_length(first)..];
-    let second = name_at(rest, b' ');
-    if second == NO_NAME {
+    let rest = &text[first.len() + 1..];
+    let second = bytes::field_up_to(rest, b' ');
+    if rest.len() <= second.len() {
         return NamesLine::Broken;
     }
-    if second == first {
+    let last = &rest[second.len() + 1..];
+    let third = bytes::field_up_to(last, b'\n');
+    if last.len() <= third.len() {
         return NamesLine::Broken;
     }
-    let last = &rest[field_length(second)..];
-    if name_at(last, b'\n') != 3 - first - second {
+    let columns = columns_in(first, second, third);
+    if !columns.complete() {
         return NamesLine::Broken;
     }
-    let period = column_of(PERIOD, first, second);
-    let budget = column_of(BUDGET, first, second);
-    let deadline = column_of(DEADLINE, first, second);
     NamesLine::Read {
-        columns: Columns {
-            period,
-            budget,
-            deadline,
-        },
-        length: LINE_LENGTH,
+        columns,
+        length: first.len() + 1 + second.len() + 1 + third.len() + 1,
     }
 }

@@ -29,7 +29,7 @@ pub enum Counted {
     Refused { number: u32, place: u32 },
 }
 
-// A refused reading.
+// The answer of a refused reading.
 fn refusal(number: u32, place: u32) -> Counted
     ensures { λ r. ⌜ r ≡ Counted.Refused number place ⌝ }
 {

@@ -6,6 +6,7 @@ pub mod NumberScan
 pub mod DigitLaws
 pub mod LineLaws
 pub mod FieldLaws
+pub mod CutFields
 pub mod NumbersOn
 pub mod ThreeNumbers
 pub mod Lengths

@@ -1,5 +1,6 @@
--- The search for the first byte b of a text. Others cite `Passed` with its laws: the first i bytes are no b (`passed-none`, `passed-more`), and what
--- is known at the next byte (`at-other`, `met`), at the end of the text (`missed-count`), and at either (`stopped`).
+-- The search for the first byte b of a text. Others cite `Passed` with its laws: the first i bytes are no b (`passed-none`, `passed-more`,
+-- `passed-next`), and what is known at the next byte (`at-other`, `met`), at the end of the text (`missed-count`), at either (`stopped`), and of what is left
+-- (`passed-rest`).
 use Prim.Native.Nat.{ℕ, suc, _+_, _≤_, _<_}
 use native.Mathlib.Numerals.{add-one}
 use native.Mathlib.Omega.{arith}
@@ -10,6 +11,7 @@ use mathlib.Core.List.{List, _∷_, _++_, append-nil}
 use lib.ListN.{length, getD, take, drop, length-append, drop-of-length-le}
 use lib.Seq.{drop-cons, take-suc, length-take-le, take-all, getD-at, append-snoc}
 use borrow.Author.Tests.{eq-eqb, ne-eqb}
+use Rattle.laws.proofs.Parts.{from, from-drop}
 use Rattle.text.specs.Lines.{has, before}
 use Rattle.text.proofs.Split.{gone}
 
@@ -41,6 +43,15 @@ passed-more b s i p h n =
           ∙ rw (add-one, drop-cons s i 0 h, before-other b (getD s i 0) (drop (suc i) s) n, take-suc s i 0 h)
           (sym (append-snoc (take i s) (getD s i 0) (before b (drop (suc i) s))));
     }
+
+pub passed-next : (b : ℕ) (s : List ℕ) (i : ℕ) → Passed b s i → i < length s → (getD s i 0 ≡ b → ⊥) → (j : ℕ) → j ≡ i + 1 → Passed b s j
+passed-next b s i p h n j e = rw e (passed-more b s i p h n)
+
+-- the scan goes on in what is left
+pub passed-rest : (b : ℕ) (s : List ℕ) (i : ℕ) → Passed b s i → (r : ℕ) → r ≡ length (before b (from s i)) → i + r ≡ length (before b s)
+passed-rest b s i p r e =
+    let q : r ≡ length (before b (drop i s)) = rw (from-drop s i) at e in
+    rw (p .front, length-append, length-take-le i s (p .within), q)
 
 -- the scan is at another byte, which is then one of those before b
 pub record Other (b : ℕ) (s : List ℕ) (i : ℕ) : Type 0 where

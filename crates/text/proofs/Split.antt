@@ -1,15 +1,15 @@
 -- A text split at its first byte b: laws of `has`, `before` and `after`. Others cite `here` (b is in the text: its three parts), `gone` and
--- `gone-rest` (it is not), `has-of` and `hasnt-of` (which of the two, by how many bytes stand before b), `cut` (the parts as the code has them), and
+-- `gone-rest` (it is not), `before-fits` and `before-front` (either), `has-of` and `hasnt-of` (which of the two, by how many bytes stand before b), `cut` (the parts as the code has them), and
 -- `inner`, `outer` and `has-after` (which of two bytes comes first).
 use Prim.Native.Nat.{ℕ, _+_, _≤_, _<_}
-use native.Mathlib.Nat.{lt-irrefl, not-le-of-lt}
+use native.Mathlib.Nat.{le-refl, lt-irrefl, not-le-of-lt}
 use native.Mathlib.Omega.{arith}
 use mathlib.Core.Path.{_≡_, refl, sym, ap, _∙_}
 use mathlib.Core.Bool.{true, false, _||_, false≢true}
 use mathlib.Core.List.{List, [], _∷_, _++_}
 use lib.Dec.{eqb}
 use lib.ListN.{length, take, drop, length-append}
-use lib.Seq.{take-append-seam, drop-append-add}
+use lib.Seq.{take-append-seam, drop-append-add, take-all}
 use borrow.Author.Tests.{ne-eqb, eqb-true}
 use Rattle.laws.proofs.CaseSplits.{by-test}
 use Rattle.laws.proofs.Parts.{past, from-drop}
@@ -74,14 +74,20 @@ unfolding has
 has-append b [] g = refl
 has-append b (x ∷ f) g = by-test (eqb x b) (λ e. rw e) (λ e. rw e (has-append b f g))
 
--- a byte e that is not before the first b is after it
-pub has-after : (b e : ℕ) (s : List ℕ) → eqb b e ≡ false → has b s ≡ true → has e s ≡ true → has e (before b s) ≡ false → has e (after b s) ≡ true
+-- a byte e that is not before the first b is after it, or nowhere
+pub has-past : (b e : ℕ) (s : List ℕ) → eqb b e ≡ false → has b s ≡ true → has e (before b s) ≡ false → has e s ≡ has e (after b s)
 unfolding has
-has-after b e s n i h f =
-    sym (ap (has e) (here b s i .whole) ∙ has-append e (before b s) (b ∷ after b s) ∙ rw (f, n)) ∙ h
+has-past b e s n i f = ap (has e) (here b s i .whole) ∙ has-append e (before b s) (b ∷ after b s) ∙ rw (f, n)
+
+pub has-after : (b e : ℕ) (s : List ℕ) → eqb b e ≡ false → has b s ≡ true → has e s ≡ true → has e (before b s) ≡ false → has e (after b s) ≡ true
+has-after b e s n i h f = sym (has-past b e s n i f) ∙ h
 
 pub before-fits : (b : ℕ) (s : List ℕ) → length (before b s) ≤ length s
 before-fits b s = by-test (has b s) (λ h. omega (arith, here b s h .within)) (λ h. omega (arith, ap length (gone b s h)))
+
+-- as many first bytes of a text as stand before b are those
+pub before-front : (b : ℕ) (s : List ℕ) → take (length (before b s)) s ≡ before b s
+before-front b s = by-test (has b s) (λ h. here b s h .front) (λ h. rw (gone b s h) (take-all (length s) s (le-refl (length s))))
 
 -- the parts of a slice on either side of a byte that was found at r, as the code has them
 pub record Cut (b : ℕ) (s : List ℕ) (r : ℕ) : Type 0 where

@@ -1,13 +1,12 @@
--- Laws of `sameBytes` and `beginsWith`: two texts that agree up to a place, how long they are, that texts that are the same are equal (`same-is`), that
--- a text begins with a word where as many of its first bytes are the same (`same-begins`); and the same of a word and one more byte (`other-end`,
--- `same-end`, `whole-ended`).
+-- Laws of `sameBytes` and `beginsWith`: two texts that are compared up to a place, how long they are, that texts that are the same are equal (`same-is`),
+-- and that a text begins with a word where as many of its first bytes are the same (`same-begins`).
 use Prim.Native.Nat.{ℕ, suc, _+_, _≤_, _<_}
 use native.Mathlib.Numerals.{add-one}
 use native.Mathlib.Omega.{arith}
 use mathlib.Core.Path.{_≡_, refl, sym, ap}
-use mathlib.Core.Bool.{true, false, _&&_, false≢true, and-true, and-false, and-assoc}
-use mathlib.Core.List.{List, [], _∷_, _++_}
-use borrow.Author.Tests.{eq-eqb, ne-eqb, eqb-true}
+use mathlib.Core.Bool.{Bool, true, false, _&&_, false≢true, and-assoc}
+use mathlib.Core.List.{List, [], _∷_}
+use borrow.Author.Tests.{eqb-true}
 use lib.Dec.{eqb}
 use lib.ListN.{length, getD, take, drop, drop-of-length-le}
 use lib.Seq.{drop-cons}
@@ -31,13 +30,15 @@ other-length s t n = by-test (sameBytes s t) (λ e. absurd (n (same-length s t e
 
 -- two texts as long as each other, at a place that both have, and past the last
 module _ (s t : List ℕ) (i : ℕ) (e : length s ≡ length t) where
-  pub differ-at : i < length s → (getD s i 0 ≡ getD t i 0 → ⊥) → sameBytes (drop i s) (drop i t) ≡ false
+  -- with what the bytes so far came to
+  pub same-next :
+      i < length s → (so-far : Bool)
+      → (so-far && sameBytes (drop i s) (drop i t))
+      ≡ (so-far && eqb (getD s i 0) (getD t i 0) && sameBytes (drop (i + 1) s) (drop (i + 1) t))
   unfolding sameBytes
-  differ-at h n = rw (drop-cons s i 0 h, drop-cons t i 0 (omega arith), ne-eqb (getD s i 0) (getD t i 0) n)
-
-  pub agree-at : i < length s → getD s i 0 ≡ getD t i 0 → sameBytes (drop i s) (drop i t) ≡ sameBytes (drop (i + 1) s) (drop (i + 1) t)
-  unfolding sameBytes
-  agree-at h q = rw (add-one, drop-cons s i 0 h, drop-cons t i 0 (omega arith), eq-eqb (getD s i 0) (getD t i 0) q)
+  same-next h so-far =
+      rw (add-one, drop-cons s i 0 h, drop-cons t i 0 (omega arith))
+      (sym (and-assoc so-far (eqb (getD s i 0) (getD t i 0)) (sameBytes (drop (suc i) s) (drop (suc i) t))))
 
   pub all-agree : length s ≤ i → sameBytes (drop i s) (drop i t) ≡ true
   unfolding sameBytes
@@ -58,30 +59,3 @@ unfolding sameBytes beginsWith
 same-begins [] s h = refl
 same-begins (b ∷ w) [] h = absurd (omega arith)
 same-begins (b ∷ w) (x ∷ s) h = let l : length w ≤ length s = omega arith in rw (same-begins w s l)
-
--- a word and one more byte b, by the byte of the text after as many as the word has
-ended : (w s : List ℕ) (b : ℕ) → length w < length s → beginsWith (w ++ b ∷ []) s ≡ (sameBytes (take (length w) s) w && eqb (getD s (length w) 0) b)
-unfolding sameBytes beginsWith
-ended [] [] b h = absurd (omega arith)
-ended [] (x ∷ s) b h = and-true (eqb x b)
-ended (c ∷ w) [] b h = absurd (omega arith)
-ended (c ∷ w) (x ∷ s) b h =
-    let l : length w < length s = omega arith in
-    rw (ended w s b l) (sym (and-assoc (eqb x c) (sameBytes (take (length w) s) w) (eqb (getD s (length w) 0) b)))
-
-module _ (w s : List ℕ) (b : ℕ) (h : length w < length s) where
-  pub other-end : (getD s (length w) 0 ≡ b → ⊥) → false ≡ beginsWith (w ++ b ∷ []) s
-  other-end n = rw (ended w s b h, ne-eqb (getD s (length w) 0) b n) (sym (and-false (sameBytes (take (length w) s) w)))
-
-  pub same-end : getD s (length w) 0 ≡ b → sameBytes (take (length w) s) w ≡ beginsWith (w ++ b ∷ []) s
-  same-end e = rw (ended w s b h, eq-eqb (getD s (length w) 0) b e) (sym (and-true (sameBytes (take (length w) s) w)))
-
--- and what follows the two
-pub whole-ended : (w s : List ℕ) (b : ℕ) → beginsWith (w ++ b ∷ []) s ≡ true → s ≡ w ++ b ∷ drop (suc (length w)) s
-unfolding beginsWith
-whole-ended [] [] b h = absurd (false≢true h)
-whole-ended [] (x ∷ s) b h = ap (λ (y : ℕ). y ∷ s) (eqb-true x b (and-left (eqb x b) true h))
-whole-ended (c ∷ w) [] b h = absurd (false≢true h)
-whole-ended (c ∷ w) (x ∷ s) b h =
-    let t = beginsWith (w ++ b ∷ []) s in
-    rw (eqb-true x c (and-left (eqb x c) t h)) (ap (λ (r : List ℕ). c ∷ r) (whole-ended w s b (and-right (eqb x c) t h)))

@@ -15,7 +15,7 @@ returns c =
 returns-2 : tie.Need-returns-2
 returns-2 c =
     let n = c .before .before in
-    refusal-is _ _ _ _ _ (n .number .given .1) (n .before .before .fill .ensures .0) _ (c .refusal .ensures)
+    refusal-is _ _ _ _ _ (n .number .given .1) (n .before .before .fill .ensures .0) _ (c .refused-reading .ensures)
 
 fill-requires : tie.Need-fill-requires
 unfolding emptyTable zeroTask periodsOf budgetsOf deadlinesOf

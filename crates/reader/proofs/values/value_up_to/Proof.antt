@@ -12,7 +12,7 @@ use Rattle.text.specs.Number.{isDigit, decimal}
 use Rattle.text.proofs.Split.{hasnt-of}
 use Rattle.text.proofs.Scan.{Passed, passed-none, passed-more, Other, at-other, met, missed-count}
 use Rattle.reader.specs.Value.{isValue}
-use Rattle.reader.proofs.ValueScan.{Digits, digits-none, digits-more, value-number, no-digits, no-digit, too-long, zero-leads, is-value, sum-fits}
+use Rattle.reader.proofs.ValueScan.{largest, Digits, digits-none, digits-more, value-number, no-digits, no-digit, too-long, zero-leads, is-value, sum-fits}
 use Rattle.reader.proofs.values.value_up_to.Statement.{statement}
 use Rattle.reader.proofs.values.value_up_to.Tie as tie
 
@@ -95,7 +95,7 @@ next-digit c = rw (other (c .before .before) .same, le-leb _ _ (c .before .if3 .
 sum :
     (c : tie.Else5 Inv-loop μ-loop)
     → let l = c .before .before .before .before .before .before in
-    l .loop .number * 10 + (getD (l .before .args .text .now) (l .loop .i) 0 - 48) ≤ 9999999
+    l .loop .number * 10 + (getD (l .before .args .text .now) (l .loop .i) 0 - 48) ≤ largest
 sum c =
     let e = c .before .before .before in
     rw (← other e .same) (sum-fits _ _ _ (e .before .before .before .loop .inv .1) (other e .inside) (next-digit (c .before)) (c .if5 .left))
