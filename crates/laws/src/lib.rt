@@ -1,1 +1,1 @@
-// Laws that every crate needs and mathlib lacks: the definition stands in specs/, the laws in proofs/. There is no code.
+// What most proofs need and mathlib lacks: the definitions stand in specs/, the laws in proofs/. There is no code.
