@@ -30,10 +30,10 @@ use Rattle.machine.specs.declared.answer.Answer.{Answer}
 use Rattle.machine.proofs.SoundLaws.{make-sound, sound-checks, sound-job}
 use Rattle.machine.proofs.CoresKept.{fresh-cores}
 use Rattle.machine.proofs.SoundKept.{call-keeps, start-sound, start-outcome}
-use Rattle.conformance.specs.FormerSlot.{noCores, machineWithoutCores, reportWithoutCores, withoutCores, logWithoutCores, formerSlot, formerStep, formerPlay}
+use Rattle.conformance.specs.FormerSlot.{noCores, machineWithoutCores, reportWithoutCores, answerWithoutCores, logWithoutCores, formerSlot, formerStep, formerPlay}
 
 -- two answers to a test, each without its cores
-past : (t : Bool) (a a' b b' : Answer) → withoutCores a ≡ b → withoutCores a' ≡ b' → withoutCores (cond t a a') ≡ cond t b b'
+past : (t : Bool) (a a' b b' : Answer) → answerWithoutCores a ≡ b → answerWithoutCores a' ≡ b' → answerWithoutCores (cond t a a') ≡ cond t b b'
 past true a a' b b' e e' = e
 past false a a' b b' e e' = e'
 
@@ -52,30 +52,30 @@ module _ (m : Machine) where
     unfolding machineWithoutCores noCores taskAt jobAt
     sound-without = make-sound (machineWithoutCores m) (sound-checks m ok) (sound-job m ok) (fresh-cores (m .table .count) maxTasks)
 
-    refused : (number : ℕ) → withoutCores (refuse m number) ≡ refuse (machineWithoutCores m) number
-    unfolding withoutCores reportWithoutCores noCores refuse noReport
+    refused : (number : ℕ) → answerWithoutCores (refuse m number) ≡ refuse (machineWithoutCores m) number
+    unfolding answerWithoutCores reportWithoutCores noCores refuse noReport
     refused number = refl
 
     -- past the test that refuses an unsound machine, which neither is
-    past-0 : (a b : Answer) → withoutCores a ≡ b
-        → withoutCores (cond (not (sound m)) (refuse m unsoundMachine) a)
+    past-0 : (a b : Answer) → answerWithoutCores a ≡ b
+        → answerWithoutCores (cond (not (sound m)) (refuse m unsoundMachine) a)
         ≡ cond (not (sound (machineWithoutCores m))) (refuse (machineWithoutCores m) unsoundMachine) b
     past-0 a b e = rw (ok, sound-without) e
 
-    pub slot-as-before : (k : ℕ) → withoutCores (slot m k) ≡ formerSlot (machineWithoutCores m) k
-    unfolding slot formerSlot slotCoresInRange withoutCores machineWithoutCores reportWithoutCores afterSlot withAssigned slotReport passed ranCount jobAt
+    pub slot-as-before : (k : ℕ) → answerWithoutCores (slot m k) ≡ formerSlot (machineWithoutCores m) k
+    unfolding slot formerSlot slotCoresInRange answerWithoutCores machineWithoutCores reportWithoutCores afterSlot withAssigned slotReport passed ranCount jobAt
     slot-as-before k = past-0 _ _ (past (not (slotCoresInRange m k)) _ _ _ _ (refused _) (rw (same-runners k)))
 
-    pub release-alike : (number need : ℕ) → withoutCores (release m number need) ≡ release (machineWithoutCores m) number need
-    unfolding release withoutCores machineWithoutCores reportWithoutCores noCores inTable jobAt taskAt done withJob noReport
+    pub release-alike : (number need : ℕ) → answerWithoutCores (release m number need) ≡ release (machineWithoutCores m) number need
+    unfolding release answerWithoutCores machineWithoutCores reportWithoutCores noCores inTable jobAt taskAt done withJob noReport
     release-alike number need =
         past-0 _ _
         (past (not (inTable m number)) _ _ _ _ (refused _)
         (past (not (needInRange (taskAt m (number - 1)) need)) _ _ _ _ (refused _)
         (past (ltb 0 (jobAt m (number - 1) .gap)) _ _ _ _ (refused _) refl)))
 
-    pub finish-alike : (number : ℕ) → withoutCores (finish m number) ≡ finish (machineWithoutCores m) number
-    unfolding finish withoutCores machineWithoutCores reportWithoutCores noCores inTable jobAt done withJob noReport
+    pub finish-alike : (number : ℕ) → answerWithoutCores (finish m number) ≡ finish (machineWithoutCores m) number
+    unfolding finish answerWithoutCores machineWithoutCores reportWithoutCores noCores inTable jobAt done withJob noReport
     finish-alike number =
         past-0 _ _ (past (not (inTable m number)) _ _ _ _ (refused _) (past (not (jobAt m (number - 1) .«open»)) _ _ _ _ (refused _) refl))
 
@@ -84,18 +84,18 @@ module _ (m : Machine) where
     unfolding machineWithoutCores noCores withJoined
     joined-alike t = rw (set-replicate {A = ℕ} maxTasks (m .table .count) 0)
 
-    after-verdict : (t : Task) (verdict : Outcome) (admits : Bool) → withoutCores (joinAfter verdict admits m t) ≡ joinAfter verdict admits (machineWithoutCores m) t
-    unfolding joinAfter withoutCores reportWithoutCores noCores done noReport
+    after-verdict : (t : Task) (verdict : Outcome) (admits : Bool) → answerWithoutCores (joinAfter verdict admits m t) ≡ joinAfter verdict admits (machineWithoutCores m) t
+    unfolding joinAfter answerWithoutCores reportWithoutCores noCores done noReport
     after-verdict t Done admits = past admits _ _ _ _ (rw (joined-alike t)) (refused _)
     after-verdict t (Refused number place) admits = refl
 
-    pub join-alike : (t : Task) → withoutCores (join m t) ≡ join (machineWithoutCores m) t
+    pub join-alike : (t : Task) → answerWithoutCores (join m t) ≡ join (machineWithoutCores m) t
     unfolding join machineWithoutCores
     join-alike t =
         past-0 _ _
         (past (not (inRange t)) _ _ _ _ (refused _) (past (leb maxTasks (m .table .count)) _ _ _ _ (refused _) (after-verdict t _ _)))
 
-    call-as-before : (call : Call) → withoutCores (step m call) ≡ formerStep (machineWithoutCores m) call
+    call-as-before : (call : Call) → answerWithoutCores (step m call) ≡ formerStep (machineWithoutCores m) call
     unfolding step formerStep
     call-as-before (Release number need) = release-alike number need
     call-as-before (Finish number) = finish-alike number
@@ -104,12 +104,12 @@ module _ (m : Machine) where
 
 pub cores-play-no-part :
     (m m' : Machine) → sound m ≡ true → sound m' ≡ true → machineWithoutCores m ≡ machineWithoutCores m'
-    → (call : Call) → withoutCores (step m call) ≡ withoutCores (step m' call)
+    → (call : Call) → answerWithoutCores (step m call) ≡ answerWithoutCores (step m' call)
 cores-play-no-part m m' ok ok' same call =
     call-as-before m ok call ∙ ap (λ (b : Machine). formerStep b call) same ∙ sym (call-as-before m' ok' call)
 
 log-as-before : (calls : List Call) (m : Machine) → sound m ≡ true → logWithoutCores (play m calls) ≡ formerPlay (machineWithoutCores m) calls
-unfolding play logWithoutCores formerPlay withoutCores
+unfolding play logWithoutCores formerPlay answerWithoutCores
 log-as-before [] m ok = refl
 log-as-before (call ∷ calls) m ok =
     let rest = log-as-before calls (step m call .machine) (call-keeps m ok call .is-sound) in

@@ -1,6 +1,6 @@
 -- Examples beside the cases of document 01, as entries of a list of computed tests: joins, a task that turns urgent, refused calls, slots with
 -- other cores than the machine's (document 02, change 1), jobs of equal deadlines (change 2), and machines made by hand (change 3). `allTrue` of crate laws
--- is the test; the theorem stands in proofs/ExamplesHold.antt. Above 150 lines because it is the list alone, with the tables that it speaks of.
+-- is the test; the theorem stands in proofs/ExamplesHold.antt.
 use Prim.Native.Nat.{ℕ}
 use mathlib.Core.Bool.{Bool, true, false, not}
 use mathlib.Core.List.{List, [], _∷_, _++_}

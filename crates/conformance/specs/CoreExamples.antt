@@ -46,13 +46,13 @@ unfoldable pub everySlot : List Task
 everySlot = replicate 2 (task 1 1 1)
 
 -- a machine made by hand: two closed tasks on 4 cores, with these cores recorded
-unfoldable pub recording : (cores : List ℕ) → Machine
-recording cores =
-    record { table = tableOf (replicate 2 (task 6 3 5)); cores = 4; jobs = replicate maxTasks freshJob; assigned = take maxTasks (cores ++ replicate maxTasks 0) }
+unfoldable pub recording : (assigned : List ℕ) → Machine
+recording assigned =
+    record { table = tableOf (replicate 2 (task 6 3 5)); cores = 4; jobs = replicate maxTasks freshJob; assigned = take maxTasks (assigned ++ replicate maxTasks 0) }
 
 -- the recorded cores of the first three entries after a call on such a machine
-unfoldable pub recordAfter : (cores : List ℕ) → Call → List ℕ
-recordAfter cores call = take 3 (machineAfter (recording cores) (call ∷ []) .assigned)
+unfoldable pub recordAfter : (assigned : List ℕ) → Call → List ℕ
+recordAfter assigned call = take 3 (machineAfter (recording assigned) (call ∷ []) .assigned)
 
 -- only accepted slots name cores
 unfoldable pub elseNoCores : List Entry → Bool

@@ -21,24 +21,27 @@ use Rattle.machine.specs.declared.answer.Report.{Report}
 unfoldable pub noCores : List ℕ
 noCores = replicate maxTasks 0
 
--- "dropping the cores": of a machine, a report, an answer and a log
+-- "dropping the cores" of a machine
 unfoldable pub machineWithoutCores : Machine → Machine
 machineWithoutCores m = record { table = m .table; cores = m .cores; jobs = m .jobs; assigned = noCores }
 
+-- of a report
 unfoldable pub reportWithoutCores : Report → Report
 reportWithoutCores r =
     record { ran = r .ran; finished = r .finished; late = r .late; runners = r .runners; assigned = noCores }
 
-unfoldable pub withoutCores : Answer → Answer
-withoutCores a =
+-- of an answer
+unfoldable pub answerWithoutCores : Answer → Answer
+answerWithoutCores a =
     record { machine = machineWithoutCores (a .machine); outcome = a .outcome; report = reportWithoutCores (a .report) }
 
+-- of a log
 unfoldable pub logWithoutCores : List Entry → List Entry
 logWithoutCores [] = []
 logWithoutCores (e ∷ log) =
     record { call = e .call; outcome = e .outcome; report = reportWithoutCores (e .report) } ∷ logWithoutCores log
 
--- the slot of before: the numbers 0 and 14, and then the four steps; no core is recorded and none is answered
+-- the slot of before, of a machine with no core recorded: the numbers 0 and 14, and then the four steps; none is recorded by it and none answered
 unfoldable pub formerSlot : Machine → (k : ℕ) → Answer
 formerSlot m k =
     let ran = runners m k in

@@ -16,29 +16,29 @@ use Rattle.cores.proofs.AmongLaws.{among-set}
 
 -- the entry that is set was 0, or the same core
 module _
-    (cores : List ℕ)
+    (assigned : List ℕ)
     (used : List Bool)
-    (f : Flagged cores used)
+    (f : Flagged assigned used)
     (i c : ℕ)
-    (h : i < length cores)
-    (was : (getD cores i 0 ≡ 0) ⊎ (getD cores i 0 ≡ c))
+    (h : i < length assigned)
+    (was : (getD assigned i 0 ≡ 0) ⊎ (getD assigned i 0 ≡ c))
   where
     -- a core other than the new one
-    other : (x : ℕ) → 1 ≤ x → (x ≡ c → ⊥) → isAmong (set cores i c) x ≡ isAmong cores x
-    other x some ne = among-set cores i c x h was some ∙ rw (ne-eqb c x (λ e. ne (sym e)))
+    other : (x : ℕ) → 1 ≤ x → (x ≡ c → ⊥) → isAmong (set assigned i c) x ≡ isAmong assigned x
+    other x some ne = among-set assigned i c x h was some ∙ rw (ne-eqb c x (λ e. ne (sym e)))
 
-    pub flag-set : c ≤ maxTasks → Flagged (set cores i c) (set used c true)
+    pub flag-set : c ≤ maxTasks → Flagged (set assigned i c) (set used c true)
     flag-set fits =
         record {
           all-flags = length-set used c true ∙ f .all-flags;
           flag = λ x some small.
               by-equal x c
               (λ e.
-              let new : isAmong (set cores i c) x ≡ true = among-set cores i c x h was some ∙ rw (eq-eqb c x (sym e)) in
+              let new : isAmong (set assigned i c) x ≡ true = among-set assigned i c x h was some ∙ rw (eq-eqb c x (sym e)) in
               rw (new, e) (getD-set-same used c true false (omega (arith, f .all-flags))))
               (λ ne. getD-set-other used c x true false ne ∙ f .flag x some small ∙ sym (other x some ne));
         }
 
-    pub flag-far : maxTasks < c → Flagged (set cores i c) used
+    pub flag-far : maxTasks < c → Flagged (set assigned i c) used
     flag-far far =
         record { all-flags = f .all-flags; flag = λ x some small. f .flag x some small ∙ sym (other x some (λ e. omega arith)) }

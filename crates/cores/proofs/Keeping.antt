@@ -19,15 +19,15 @@ use Rattle.cores.proofs.AmongLaws.{among-index}
 use Rattle.cores.proofs.Flags.{flag-set, flag-far}
 
 -- the runners from n on have kept theirs
-pub record Keeping (recorded : List ℕ) (k : ℕ) (runners cores : List ℕ) (used : List Bool) (n : ℕ) : Type 0 where
+pub record Keeping (recorded : List ℕ) (k : ℕ) (runners assigned : List ℕ) (used : List Bool) (n : ℕ) : Type 0 where
   pub within : n ≤ length runners
-  pub are : cores ≡ kept recorded k (drop n runners)
-  pub flagged : Flagged cores used
+  pub are : assigned ≡ kept recorded k (drop n runners)
+  pub flagged : Flagged assigned used
 
 pub keeping-length :
-    {recorded : List ℕ} {k : ℕ} {runners cores : List ℕ} {used : List Bool} {n : ℕ} → Keeping recorded k runners cores used n
-    → length cores ≡ maxTasks
-keeping-length {recorded} {k} {runners} {cores} {used} {n} now = rw (now .are) (length-kept recorded k (drop n runners))
+    {recorded : List ℕ} {k : ℕ} {runners assigned : List ℕ} {used : List Bool} {n : ℕ} → Keeping recorded k runners assigned used n
+    → length assigned ≡ maxTasks
+keeping-length {recorded} {k} {runners} {assigned} {used} {n} now = rw (now .are) (length-kept recorded k (drop n runners))
 
 -- no core is among zeros
 none-among : (n x : ℕ) → 1 ≤ x → isAmong (replicate n 0) x ≡ false
@@ -54,10 +54,10 @@ keeping-none recorded k runners =
 module _
     (recorded : List ℕ)
     (k : ℕ)
-    (runners cores : List ℕ)
+    (runners assigned : List ℕ)
     (used : List Bool)
     (n : ℕ)
-    (now : Keeping recorded k runners cores used n)
+    (now : Keeping recorded k runners assigned used n)
     (more : 0 < n)
   where
     abbrev next : ℕ
@@ -72,12 +72,12 @@ module _
         drop-cons runners (n - 1) 0 (omega (arith, now .within)) ∙ ap (λ (j : ℕ). next ∷ drop j runners) e
 
     -- the next runner's core with it
-    set-is : set cores next core ≡ kept recorded k (drop (n - 1) runners)
+    set-is : set assigned next core ≡ kept recorded k (drop (n - 1) runners)
     unfolding kept
     set-is = rw (one-more, now .are)
 
     -- it had none, or the same, if it was listed before
-    had : next < maxTasks → (getD cores next 0 ≡ 0) ⊎ (getD cores next 0 ≡ core)
+    had : next < maxTasks → (getD assigned next 0 ≡ 0) ⊎ (getD assigned next 0 ≡ core)
     had h =
         let is = kept-at recorded k (drop n runners) next h in
         by-test (isAmong (drop n runners) next)
@@ -85,31 +85,31 @@ module _
         (λ f. inl (rw (now .are) (is ∙ rw f)))
 
     module _ (h : next < maxTasks) where
-      inside : next < length cores
+      inside : next < length assigned
       inside = rw (now .are) (omega (arith, length-kept recorded k (drop n runners)))
 
-      pub keeping-more : core ≤ maxTasks → Keeping recorded k runners (set cores next core) (set used core true) (n - 1)
+      pub keeping-more : core ≤ maxTasks → Keeping recorded k runners (set assigned next core) (set used core true) (n - 1)
       keeping-more fits =
           record {
             within = omega (arith, now .within);
             are = set-is;
-            flagged = flag-set cores used (now .flagged) next core inside (had h) fits;
+            flagged = flag-set assigned used (now .flagged) next core inside (had h) fits;
           }
 
       -- a core that has no flag
-      pub keeping-large : maxTasks < core → Keeping recorded k runners (set cores next core) used (n - 1)
+      pub keeping-large : maxTasks < core → Keeping recorded k runners (set assigned next core) used (n - 1)
       keeping-large large =
           record {
             within = omega (arith, now .within);
             are = set-is;
-            flagged = flag-far cores used (now .flagged) next core inside (had h) large;
+            flagged = flag-far assigned used (now .flagged) next core inside (had h) large;
           }
 
     -- an index that is no task's
-    pub keeping-far : maxTasks ≤ next → Keeping recorded k runners cores used (n - 1)
+    pub keeping-far : maxTasks ≤ next → Keeping recorded k runners assigned used (n - 1)
     keeping-far far =
         record {
           within = omega (arith, now .within);
-          are = sym (set-out cores next core (rw (now .are) (omega (arith, length-kept recorded k (drop n runners))))) ∙ set-is;
+          are = sym (set-out assigned next core (rw (now .are) (omega (arith, length-kept recorded k (drop n runners))))) ∙ set-is;
           flagged = now .flagged;
         }

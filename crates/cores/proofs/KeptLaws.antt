@@ -38,19 +38,19 @@ pub record AllInside (l : List ℕ) : Type 0 where
   pub inside : (i : ℕ) → isAmong l i ≡ true → i < maxTasks
 
 -- how many of the tasks have no core
-unfoldable pub without : (cores tasks : List ℕ) → ℕ
-without cores [] = 0
-without cores (i ∷ tasks) = cond (eqb (getD cores i 0) 0) 1 0 + without cores tasks
+unfoldable pub without : (assigned tasks : List ℕ) → ℕ
+without assigned [] = 0
+without assigned (i ∷ tasks) = cond (eqb (getD assigned i 0) 0) 1 0 + without assigned tasks
 
 -- where no core is taken away, no more are without
-pub without-set : (cores : List ℕ) (i c : ℕ) (tasks : List ℕ) → getD cores i 0 ≡ 0 → without (set cores i c) tasks ≤ without cores tasks
+pub without-set : (assigned : List ℕ) (i c : ℕ) (tasks : List ℕ) → getD assigned i 0 ≡ 0 → without (set assigned i c) tasks ≤ without assigned tasks
 unfolding without
-without-set cores i c [] none = omega arith
-without-set cores i c (j ∷ tasks) none =
-    let rest = without-set cores i c tasks none in
+without-set assigned i c [] none = omega arith
+without-set assigned i c (j ∷ tasks) none =
+    let rest = without-set assigned i c tasks none in
     by-equal j i
-    (λ e. rw (e, eq-eqb (getD cores i 0) 0 none) (by-test (eqb (getD (set cores i c) i 0) 0) (λ t. rw t (omega (arith, rest))) (λ f. rw f (omega (arith, rest)))))
-    (λ ne. rw (getD-set-other cores i j c 0 ne) (omega (arith, rest)))
+    (λ e. rw (e, eq-eqb (getD assigned i 0) 0 none) (by-test (eqb (getD (set assigned i c) i 0) 0) (λ t. rw t (omega (arith, rest))) (λ f. rw f (omega (arith, rest)))))
+    (λ ne. rw (getD-set-other assigned i j c 0 ne) (omega (arith, rest)))
 
 rest-inside : (x : ℕ) (l : List ℕ) → AllInside (x ∷ l) → AllInside l
 unfolding isAmong

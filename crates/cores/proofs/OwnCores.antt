@@ -16,33 +16,33 @@ use Rattle.cores.proofs.UnusedLaws.{Unused, some-unused, someCount, som
 use Rattle.cores.proofs.KeptLaws.{isDistinct, AllInside, without, without-set, length-kept, kept-some, kept-count}
 
 -- what the runners' cores are, of k
-pub record Assigned (k : ℕ) (runners cores : List ℕ) : Type 0 where
-  pub some : (i : ℕ) → isAmong runners i ≡ true → 1 ≤ getD cores i 0
-  pub within : (i : ℕ) → getD cores i 0 ≤ k
-  pub apart : (i j : ℕ) → getD cores i 0 ≡ getD cores j 0 → 1 ≤ getD cores i 0 → i ≡ j
-  pub only : (i : ℕ) → 1 ≤ getD cores i 0 → isAmong runners i ≡ true
+pub record Assigned (k : ℕ) (runners assigned : List ℕ) : Type 0 where
+  pub some : (i : ℕ) → isAmong runners i ≡ true → 1 ≤ getD assigned i 0
+  pub within : (i : ℕ) → getD assigned i 0 ≤ k
+  pub apart : (i j : ℕ) → getD assigned i 0 ≡ getD assigned j 0 → 1 ≤ getD assigned i 0 → i ≡ j
+  pub only : (i : ℕ) → 1 ≤ getD assigned i 0 → isAmong runners i ≡ true
 
 -- what holds while some of the runners have no core yet
-record Partly (k : ℕ) (runners cores : List ℕ) : Type 0 where
-  all-there : length cores ≡ maxTasks
-  within : (i : ℕ) → getD cores i 0 ≤ k
-  apart : (i j : ℕ) → getD cores i 0 ≡ getD cores j 0 → 1 ≤ getD cores i 0 → i ≡ j
-  only : (i : ℕ) → 1 ≤ getD cores i 0 → isAmong runners i ≡ true
+record Partly (k : ℕ) (runners assigned : List ℕ) : Type 0 where
+  all-there : length assigned ≡ maxTasks
+  within : (i : ℕ) → getD assigned i 0 ≤ k
+  apart : (i j : ℕ) → getD assigned i 0 ≡ getD assigned j 0 → 1 ≤ getD assigned i 0 → i ≡ j
+  only : (i : ℕ) → 1 ≤ getD assigned i 0 → isAmong runners i ≡ true
 
 -- a runner without a core takes one of 1 to k that is not used
-module _ (k : ℕ) (runners cores : List ℕ) (p : Partly k runners cores) (i c : ℕ) (runs : isAmong runners i ≡ true) (h : i < maxTasks) (none : getD cores i 0 ≡ 0) (u : Unused (isAmong cores) 1 k c) where
-  at-it : getD (set cores i c) i 0 ≡ c
-  at-it = getD-set-same cores i c 0 (omega (arith, p .all-there))
+module _ (k : ℕ) (runners assigned : List ℕ) (p : Partly k runners assigned) (i c : ℕ) (runs : isAmong runners i ≡ true) (h : i < maxTasks) (none : getD assigned i 0 ≡ 0) (u : Unused (isAmong assigned) 1 k c) where
+  at-it : getD (set assigned i c) i 0 ≡ c
+  at-it = getD-set-same assigned i c 0 (omega (arith, p .all-there))
 
-  off-it : (j : ℕ) → (j ≡ i → ⊥) → getD (set cores i c) j 0 ≡ getD cores j 0
-  off-it j ne = getD-set-other cores i j c 0 ne
+  off-it : (j : ℕ) → (j ≡ i → ⊥) → getD (set assigned i c) j 0 ≡ getD assigned j 0
+  off-it j ne = getD-set-other assigned i j c 0 ne
 
   -- no other task has it
-  alone : {A : Type 0} (j : ℕ) → c ≡ getD cores j 0 → A
+  alone : {A : Type 0} (j : ℕ) → c ≡ getD assigned j 0 → A
   alone j e =
-      not-both (isAmong cores c) (among-at cores j c (some-inside cores j (omega (arith, u .from))) (sym e)) (u .free)
+      not-both (isAmong assigned c) (among-at assigned j c (some-inside assigned j (omega (arith, u .from))) (sym e)) (u .free)
 
-  now-apart : (a b : ℕ) → getD (set cores i c) a 0 ≡ getD (set cores i c) b 0 → 1 ≤ getD (set cores i c) a 0 → a ≡ b
+  now-apart : (a b : ℕ) → getD (set assigned i c) a 0 ≡ getD (set assigned i c) b 0 → 1 ≤ getD (set assigned i c) a 0 → a ≡ b
   now-apart a b same some =
       by-equal a i
       (λ ea. by-equal b i (λ eb. ea ∙ sym eb) (λ nb. alone b (sym at-it ∙ rw ea at same ∙ off-it b nb)))
@@ -51,28 +51,28 @@ module _ (k : ℕ) (runners cores : List ℕ) (p : Partly k runners cores) (i c 
       (λ eb. alone a (sym at-it ∙ sym (rw eb at same) ∙ off-it a na))
       (λ nb. p .apart a b (sym (off-it a na) ∙ same ∙ off-it b nb) (rw (off-it a na) at some)))
 
-  takes : Partly k runners (set cores i c)
+  takes : Partly k runners (set assigned i c)
   takes =
       record {
-        all-there = length-set cores i c ∙ p .all-there;
+        all-there = length-set assigned i c ∙ p .all-there;
         within = λ j. by-equal j i (λ e. rw (e, at-it) (omega (arith, u .below))) (λ ne. rw (off-it j ne) (p .within j));
         apart = now-apart;
         only = λ j some. by-equal j i (λ e. rw e runs) (λ ne. p .only j (rw (off-it j ne) at some));
       }
 
 -- what the rest of the runners, `more`, take
-record Taken (k : ℕ) (runners more cores final : List ℕ) : Type 0 where
+record Taken (k : ℕ) (runners more assigned final : List ℕ) : Type 0 where
   partly : Partly k runners final
   each : (i : ℕ) → isAmong more i ≡ true → 1 ≤ getD final i 0
-  kept-on : (i : ℕ) → 1 ≤ getD cores i 0 → getD final i 0 ≡ getD cores i 0
+  kept-on : (i : ℕ) → 1 ≤ getD assigned i 0 → getD final i 0 ≡ getD assigned i 0
 
 module _ (k : ℕ) (runners : List ℕ) (all : AllInside runners) where
   -- of runners the first of which has its core by now
   first-has :
-      (i : ℕ) (more cores now final : List ℕ) → 1 ≤ getD now i 0 → ((j : ℕ) → 1 ≤ getD cores j 0 → getD now j 0 ≡ getD cores j 0)
-      → Taken k runners more now final → Taken k runners (i ∷ more) cores final
+      (i : ℕ) (more assigned now final : List ℕ) → 1 ≤ getD now i 0 → ((j : ℕ) → 1 ≤ getD assigned j 0 → getD now j 0 ≡ getD assigned j 0)
+      → Taken k runners more now final → Taken k runners (i ∷ more) assigned final
   unfolding isAmong
-  first-has i more cores now final some same t =
+  first-has i more assigned now final some same t =
       record {
         partly = t .partly;
         each = λ j e.
@@ -83,30 +83,30 @@ module _ (k : ℕ) (runners : List ℕ) (all : AllInside runners) where
       }
 
   takes-on :
-      (more cores : List ℕ) → ((i : ℕ) → isAmong more i ≡ true → isAmong runners i ≡ true) → Partly k runners cores
-      → someCount cores + without cores more ≤ k → Taken k runners more cores (taken k more cores)
+      (more assigned : List ℕ) → ((i : ℕ) → isAmong more i ≡ true → isAmong runners i ≡ true) → Partly k runners assigned
+      → someCount assigned + without assigned more ≤ k → Taken k runners more assigned (taken k more assigned)
   unfolding taken without isAmong
-  takes-on [] cores are p few = record { partly = p; each = λ i e. not-both false e refl; kept-on = λ i h. refl }
-  takes-on (i ∷ more) cores are p few =
+  takes-on [] assigned are p few = record { partly = p; each = λ i e. not-both false e refl; kept-on = λ i h. refl }
+  takes-on (i ∷ more) assigned are p few =
       let first : isAmong runners i ≡ true = are i (rw (eq-eqb i i refl)) in
       let rest-are : (j : ℕ) → isAmong more j ≡ true → isAmong runners j ≡ true = λ j e. are j (rw (e, or-true)) in
-      by-equal (getD cores i 0) 0
+      by-equal (getD assigned i 0) 0
       (λ none.
-      let zero-now : eqb (getD cores i 0) 0 ≡ true = eq-eqb (getD cores i 0) 0 none in
-      let room : someCount cores + (1 + without cores more) ≤ k = rw zero-now at few in
-      let c : ℕ = firstUnused (isAmong cores) 1 k in
-      let u = some-unused cores k (omega arith) in
+      let zero-now : eqb (getD assigned i 0) 0 ≡ true = eq-eqb (getD assigned i 0) 0 none in
+      let room : someCount assigned + (1 + without assigned more) ≤ k = rw zero-now at few in
+      let c : ℕ = firstUnused (isAmong assigned) 1 k in
+      let u = some-unused assigned k (omega arith) in
       let h : i < maxTasks = all .inside i first in
-      let long : i < length cores = omega (arith, p .all-there) in
+      let long : i < length assigned = omega (arith, p .all-there) in
       rw zero-now
-      (first-has i more cores (set cores i c) _ (rw (at-it k runners cores p i c first h none u) (u .from))
-      (λ j has. off-it k runners cores p i c first h none u j (λ e. let z : getD cores j 0 ≡ 0 = rw e none in omega arith))
-      (takes-on more (set cores i c) rest-are (takes k runners cores p i c first h none u)
-      (omega (arith, some-set cores i c long none (u .from), without-set cores i c more none)))))
+      (first-has i more assigned (set assigned i c) _ (rw (at-it k runners assigned p i c first h none u) (u .from))
+      (λ j has. off-it k runners assigned p i c first h none u j (λ e. let z : getD assigned j 0 ≡ 0 = rw e none in omega arith))
+      (takes-on more (set assigned i c) rest-are (takes k runners assigned p i c first h none u)
+      (omega (arith, some-set assigned i c long none (u .from), without-set assigned i c more none)))))
       (λ has.
-      let some-now : eqb (getD cores i 0) 0 ≡ false = ne-eqb (getD cores i 0) 0 has in
+      let some-now : eqb (getD assigned i 0) 0 ≡ false = ne-eqb (getD assigned i 0) 0 has in
       let room = rw some-now at few in
-      rw some-now (first-has i more cores cores _ (omega arith) (λ j h. refl) (takes-on more cores rest-are p (omega arith))))
+      rw some-now (first-has i more assigned assigned _ (omega arith) (λ j h. refl) (takes-on more assigned rest-are p (omega arith))))
 
 -- the runners are of a machine whose recorded cores are sound: no two of them have one core
 module _

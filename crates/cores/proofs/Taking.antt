@@ -17,77 +17,77 @@ use Rattle.cores.proofs.UnusedLaws.{first-same, first-within, first-bou
 use Rattle.cores.proofs.Flags.{flag-set}
 
 -- the first of the runners has a core, or takes the lowest
-taken-has : (k i : ℕ) (more cores : List ℕ) → (getD cores i 0 ≡ 0 → ⊥) → taken k (i ∷ more) cores ≡ taken k more cores
+taken-has : (k i : ℕ) (more assigned : List ℕ) → (getD assigned i 0 ≡ 0 → ⊥) → taken k (i ∷ more) assigned ≡ taken k more assigned
 unfolding taken
-taken-has k i more cores has = rw (ne-eqb (getD cores i 0) 0 has)
+taken-has k i more assigned has = rw (ne-eqb (getD assigned i 0) 0 has)
 
 taken-one :
-    (k i : ℕ) (more cores : List ℕ) → getD cores i 0 ≡ 0 → taken k (i ∷ more) cores ≡ taken k more (set cores i (firstUnused (isAmong cores) 1 k))
+    (k i : ℕ) (more assigned : List ℕ) → getD assigned i 0 ≡ 0 → taken k (i ∷ more) assigned ≡ taken k more (set assigned i (firstUnused (isAmong assigned) 1 k))
 unfolding taken
-taken-one k i more cores none = rw (eq-eqb (getD cores i 0) 0 none)
+taken-one k i more assigned none = rw (eq-eqb (getD assigned i 0) 0 none)
 
 -- the first n runners have taken theirs, of those that had none in `start`
-pub record Taking (k : ℕ) (runners start cores : List ℕ) (used : List Bool) (n : ℕ) : Type 0 where
-  pub left : taken k runners start ≡ taken k (drop n runners) cores
-  pub all-there : length cores ≡ maxTasks
-  pub flagged : Flagged cores used
+pub record Taking (k : ℕ) (runners start assigned : List ℕ) (used : List Bool) (n : ℕ) : Type 0 where
+  pub left : taken k runners start ≡ taken k (drop n runners) assigned
+  pub all-there : length assigned ≡ maxTasks
+  pub flagged : Flagged assigned used
 
-pub taking-none : (k : ℕ) (runners cores : List ℕ) (used : List Bool) → length cores ≡ maxTasks → Flagged cores used → Taking k runners cores cores used 0
-taking-none k runners cores used all f = record { left = refl; all-there = all; flagged = f }
+pub taking-none : (k : ℕ) (runners assigned : List ℕ) (used : List Bool) → length assigned ≡ maxTasks → Flagged assigned used → Taking k runners assigned assigned used 0
+taking-none k runners assigned used all f = record { left = refl; all-there = all; flagged = f }
 
 module _
     (k : ℕ)
-    (runners start cores : List ℕ)
+    (runners start assigned : List ℕ)
     (used : List Bool)
     (n : ℕ)
-    (now : Taking k runners start cores used n)
+    (now : Taking k runners start assigned used n)
     (more : n < length runners)
   where
     abbrev next : ℕ
     next = getD runners n 0
 
     abbrev lowest : ℕ
-    lowest = firstUnused (isAmong cores) 1 k
+    lowest = firstUnused (isAmong assigned) 1 k
 
     one-more : drop n runners ≡ next ∷ drop (n + 1) runners
     one-more = rw (add-one n) (drop-cons runners n 0 more)
 
     -- a runner that has a core
-    pub taking-has : (getD cores next 0 ≡ 0 → ⊥) → Taking k runners start cores used (n + 1)
+    pub taking-has : (getD assigned next 0 ≡ 0 → ⊥) → Taking k runners start assigned used (n + 1)
     taking-has has =
         record {
-          left = now .left ∙ ap (λ (l : List ℕ). taken k l cores) one-more ∙ taken-has k next _ cores has;
+          left = now .left ∙ ap (λ (l : List ℕ). taken k l assigned) one-more ∙ taken-has k next _ assigned has;
           all-there = now .all-there;
           flagged = now .flagged;
         }
 
-    takes : getD cores next 0 ≡ 0 → taken k runners start ≡ taken k (drop (n + 1) runners) (set cores next lowest)
-    takes none = now .left ∙ ap (λ (l : List ℕ). taken k l cores) one-more ∙ taken-one k next _ cores none
+    takes : getD assigned next 0 ≡ 0 → taken k runners start ≡ taken k (drop (n + 1) runners) (set assigned next lowest)
+    takes none = now .left ∙ ap (λ (l : List ℕ). taken k l assigned) one-more ∙ taken-one k next _ assigned none
 
     -- an index that is no task's
-    pub taking-far : maxTasks ≤ next → Taking k runners start cores used (n + 1)
+    pub taking-far : maxTasks ≤ next → Taking k runners start assigned used (n + 1)
     taking-far far =
-        let past : length cores ≤ next = omega (arith, now .all-there) in
+        let past : length assigned ≤ next = omega (arith, now .all-there) in
         record {
-          left = takes (List·getD-eq-default cores 0 past) ∙ rw (set-out cores next lowest past);
+          left = takes (List·getD-eq-default assigned 0 past) ∙ rw (set-out assigned next lowest past);
           all-there = now .all-there;
           flagged = now .flagged;
         }
 
-    module _ (h : next < maxTasks) (none : getD cores next 0 ≡ 0) where
+    module _ (h : next < maxTasks) (none : getD assigned next 0 ≡ 0) where
       pub takes-lowest : firstUnused (λ core. getD used core false) 1 (min k maxTasks) ≡ lowest
       takes-lowest =
-          first-same (λ core. getD used core false) (isAmong cores) 1 (min k maxTasks) (λ c from below. now .flagged .flag c from (omega arith))
-          ∙ first-within cores k maxTasks (omega (arith, some-few cores next (omega (arith, now .all-there)) none, now .all-there))
+          first-same (λ core. getD used core false) (isAmong assigned) 1 (min k maxTasks) (λ c from below. now .flagged .flag c from (omega arith))
+          ∙ first-within assigned k maxTasks (omega (arith, some-few assigned next (omega (arith, now .all-there)) none, now .all-there))
 
       pub lowest-fits : lowest ≤ maxTasks
       lowest-fits = omega (arith, takes-lowest, first-bound (λ core. getD used core false) 1 (min k maxTasks) (omega arith))
 
-      pub taking-one : Taking k runners start (set cores next lowest) (set used lowest true) (n + 1)
+      pub taking-one : Taking k runners start (set assigned next lowest) (set used lowest true) (n + 1)
       taking-one =
           record {
             left = takes none;
-            all-there = length-set cores next lowest ∙ now .all-there;
+            all-there = length-set assigned next lowest ∙ now .all-there;
             flagged =
-                flag-set cores used (now .flagged) next lowest (omega (arith, now .all-there)) (inl none) lowest-fits;
+                flag-set assigned used (now .flagged) next lowest (omega (arith, now .all-there)) (inl none) lowest-fits;
           }

@@ -29,10 +29,10 @@ firstUnused isUsed core (suc n) = cond (isUsed core) (firstUnused isUsed (suc co
 
 -- "The other runners, in precedence, take the unused cores in rising number.": one after the other, a runner that has none takes the lowest of 1 to k
 -- that no task has by then
-unfoldable pub taken : (k : ℕ) → (runners : List ℕ) → (cores : List ℕ) → List ℕ
-taken k [] cores = cores
-taken k (i ∷ runners) cores =
-    taken k runners (cond (eqb (getD cores i 0) 0) (set cores i (firstUnused (isAmong cores) 1 k)) cores)
+unfoldable pub taken : (k : ℕ) → (runners : List ℕ) → (assigned : List ℕ) → List ℕ
+taken k [] assigned = assigned
+taken k (i ∷ runners) assigned =
+    taken k runners (cond (eqb (getD assigned i 0) 0) (set assigned i (firstUnused (isAmong assigned) 1 k)) assigned)
 
 -- the core of each runner of a slot with k cores, and 0 for every other task: first every keeper keeps its core, and then "The
 -- other runners, in precedence, take" theirs

@@ -8,8 +8,8 @@ use Rattle.cores.specs.Assign.{assignment}
 use Rattle.cores.specs.Record.{coresSound}
 
 -- with these recorded cores and k cores, these runners, by their indexes in precedence, give the first tasks these cores
-unfoldable pub assignmentIs : (recorded : List ℕ) → (k : ℕ) → (runners : List ℕ) → (cores : List ℕ) → Bool
-assignmentIs recorded k runners cores = sameNumbers (take (length cores) (assignment recorded k runners)) cores
+unfoldable pub assignmentIs : (recorded : List ℕ) → (k : ℕ) → (runners : List ℕ) → (assigned : List ℕ) → Bool
+assignmentIs recorded k runners assigned = sameNumbers (take (length assigned) (assignment recorded k runners)) assigned
 
 -- assignments, and which records are sound
 unfoldable pub examples : List Bool

@@ -9,4 +9,4 @@ use Rattle.cores.specs.Assign.{isAmong}
 -- "a recorded core above 16, or one core recorded twice", the other way round, of the cores recorded for the tasks of a table: 0 is no core
 unfoldable pub coresSound : List ℕ → Bool
 coresSound [] = true
-coresSound (core ∷ cores) = leb core maxCores && (eqb core 0 || not (isAmong cores core)) && coresSound cores
+coresSound (core ∷ assigned) = leb core maxCores && (eqb core 0 || not (isAmong assigned core)) && coresSound assigned

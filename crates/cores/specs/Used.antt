@@ -9,11 +9,11 @@ use Rattle.tasks.specs.Limits.{maxTasks}
 use Rattle.cores.specs.Assign.{kept, isAmong}
 
 -- a flag for 0, which is not read, and for each core from 1 on, as many as there are tasks: whether a task has it
-pub record Flagged (cores : List ℕ) (used : List Bool) : Type 0 where
+pub record Flagged (assigned : List ℕ) (used : List Bool) : Type 0 where
   pub all-flags : length used ≡ suc maxTasks
-  pub flag : (core : ℕ) → 1 ≤ core → core ≤ maxTasks → getD used core false ≡ isAmong cores core
+  pub flag : (core : ℕ) → 1 ≤ core → core ≤ maxTasks → getD used core false ≡ isAmong assigned core
 
 -- the cores of the runners that keep theirs, with their flags
-pub record KeptCores (recorded : List ℕ) (k : ℕ) (runners cores : List ℕ) (used : List Bool) : Type 0 where
-  pub are : cores ≡ kept recorded k runners
-  pub flagged : Flagged cores used
+pub record KeptCores (recorded : List ℕ) (k : ℕ) (runners assigned : List ℕ) (used : List Bool) : Type 0 where
+  pub are : assigned ≡ kept recorded k runners
+  pub flagged : Flagged assigned used

@@ -11,17 +11,17 @@ use Rattle.edzl.specs.Window.{admitted}
 use Rattle.edzl.specs.Slack.{allRounds, slackAdmits}
 
 -- the three numbers of a task
-pub record Numbers : Type 0 where
+pub record TaskNumbers : Type 0 where
   pub period : ℕ
   pub budget : ℕ
   pub deadline : ℕ
 
 -- a task by its three numbers
-unfoldable pub plainTask : (period budget deadline : ℕ) → Numbers
+unfoldable pub plainTask : (period budget deadline : ℕ) → TaskNumbers
 plainTask period budget deadline = record { period = period; budget = budget; deadline = deadline }
 
 -- the set of these tasks
-unfoldable pub setOf : List Numbers → TaskSet
+unfoldable pub setOf : List TaskNumbers → TaskSet
 setOf tasks =
     record {
       count = length tasks;
@@ -31,24 +31,24 @@ setOf tasks =
     }
 
 -- the slack test makes so many rounds and gives this verdict
-unfoldable pub plainSlackIs : List Numbers → (m rounds : ℕ) → (admits : Bool) → Bool
+unfoldable pub plainSlackIs : List TaskNumbers → (m rounds : ℕ) → (admits : Bool) → Bool
 plainSlackIs tasks m rounds admits = eqb (allRounds (setOf tasks) m .made) rounds && Bool·beq (slackAdmits (setOf tasks) m) admits
 
 -- the window test refuses the set
-unfoldable pub windowRefuses : List Numbers → (m : ℕ) → Bool
+unfoldable pub windowRefuses : List TaskNumbers → (m : ℕ) → Bool
 windowRefuses tasks m = not (admitted (setOf tasks) m)
 
 -- the last round has these sums, and they give these slacks
-unfoldable pub lastIs : List Numbers → (m : ℕ) → (sums slacks : List ℕ) → Bool
+unfoldable pub lastIs : List TaskNumbers → (m : ℕ) → (sums slacks : List ℕ) → Bool
 lastIs tasks m sums slacks =
     let rounds = allRounds (setOf tasks) m in sameNumbers (rounds .sums) sums && sameNumbers (rounds .slacks) slacks
 
 -- document 002's four tasks
-unfoldable pub plainFourTasks : List Numbers
+unfoldable pub plainFourTasks : List TaskNumbers
 plainFourTasks = plainTask 2 1 2 ∷ plainTask 2 1 2 ∷ plainTask 7 1 7 ∷ plainTask 8 3 8 ∷ []
 
 -- tasks that one round more than 64 would admit
-unfoldable pub cutTasks : List Numbers
+unfoldable pub cutTasks : List TaskNumbers
 cutTasks = plainTask 188 1 1 ∷ plainTask 157 31 94 ∷ plainTask 188 30 32 ∷ plainTask 188 32 188 ∷ []
 
 -- rounds and verdicts of the slack test

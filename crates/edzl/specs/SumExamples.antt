@@ -7,26 +7,26 @@ use mathlib.Core.List.{List, [], _∷_}
 use lib.Dec.{eqb}
 use lib.ListN.{replicate}
 use Rattle.edzl.specs.Window.{noSlack, windowSum, countUrgent}
-use Rattle.edzl.specs.SlackExamples.{Numbers, plainTask, setOf, plainSlackIs}
+use Rattle.edzl.specs.SlackExamples.{TaskNumbers, plainTask, setOf, plainSlackIs}
 
 -- the sum of the first task in the window test
-unfoldable pub firstSumIs : List Numbers → (sum : ℕ) → Bool
+unfoldable pub firstSumIs : List TaskNumbers → (sum : ℕ) → Bool
 firstSumIs tasks sum = eqb (windowSum (setOf tasks) noSlack 0) sum
 
 -- COUNT of the window test
-unfoldable pub countIs : List Numbers → (m count : ℕ) → Bool
+unfoldable pub countIs : List TaskNumbers → (m count : ℕ) → Bool
 countIs tasks m count = eqb (countUrgent (setOf tasks) noSlack m) count
 
 -- a task 1,000,000, 1, 1,000,000 with n tasks 1, 1, 1
-unfoldable pub longWith : (n : ℕ) → List Numbers
+unfoldable pub longWith : (n : ℕ) → List TaskNumbers
 longWith n = plainTask 1_000_000 1 1_000_000 ∷ replicate n (plainTask 1 1 1)
 
 -- the long task with 15 of them, and a task that adds 999,998
-unfoldable pub oneBelow : List Numbers
+unfoldable pub oneBelow : List TaskNumbers
 oneBelow = plainTask 1_000_000 1 1_000_000 ∷ plainTask 1_000_000 999_998 999_998 ∷ replicate 15 (plainTask 1 1 1)
 
 -- the long task with 16 of them, and a task that adds 1
-unfoldable pub oneAbove : List Numbers
+unfoldable pub oneAbove : List TaskNumbers
 oneAbove = plainTask 1_000_000 1 1_000_000 ∷ plainTask 1_000_000 1 1 ∷ replicate 16 (plainTask 1 1 1)
 
 -- sums below m·A_k of the first task, at it and above it, and the largest

@@ -19,7 +19,7 @@ unfoldable pub header : Test → List ℕ
 header Window = 67 ∷ 79 ∷ 82 ∷ 69 ∷ 83 ∷ 32 ∷ 67 ∷ 79 ∷ 85 ∷ 78 ∷ 84 ∷ 32 ∷ 65 ∷ 68 ∷ 77 ∷ 73 ∷ 84 ∷ 10 ∷ []
 header Slack = 67 ∷ 79 ∷ 82 ∷ 69 ∷ 83 ∷ 32 ∷ 82 ∷ 79 ∷ 85 ∷ 78 ∷ 68 ∷ 83 ∷ 32 ∷ 65 ∷ 68 ∷ 77 ∷ 73 ∷ 84 ∷ 10 ∷ []
 
--- document 01: "m, COUNT, and 1 for admitted or 0"; the handbook: "m, the rounds made, and 1 for admitted by the slack test or 0"
+-- document 01: "m, COUNT, and 1 for admitted or 0"; the handbook: "m, the rounds made, and 1 or 0, where 1 is admitted by the slack test"
 unfoldable pub lineNumbers : Test → Table → (m : ℕ) → List ℕ
 lineNumbers Window t m = m ∷ judged t m .count ∷ cond (judged t m .admits) 1 0 ∷ []
 lineNumbers Slack t m = m ∷ slackJudged t m .rounds ∷ cond (slackJudged t m .admits) 1 0 ∷ []

@@ -21,14 +21,14 @@ use Rattle.machine.specs.Slot.{noReport}
 use Rattle.machine.specs.Calls.{start}
 use Rattle.machine.specs.Play.{Entry, play}
 use Rattle.machine.specs.InTime.{isFinishOf, acceptedFinish, saysRan, saysFinished, slotCount, upToSlot, ranWhole, anyFinish, tableAfter, joinedBy, closedBySlot, InTime, Promise}
-use Rattle.machine.specs.Claims.{slotOf, idle, ran, ranLast, acceptedCall, refusedCall, closedIn, threeTasks, claims}
+use Rattle.machine.specs.Claims.{slotOf, idle, ranOn, ranLast, acceptedCall, refusedCall, closedIn, threeTasks, claims}
 use Rattle.machine.specs.declared.call.Call.{Call}
 use Rattle.machine.specs.declared.call.Call.the-variants.{Release, Slot, Join}
 use Rattle.machine.proofs.Computing.{computing}
 use Rattle.machine.proofs.InTimeHolds.{promise}
 
 pub claims-hold : allTrue claims ≡ true
-unfolding computing saysRan saysFinished slotCount upToSlot ranWhole acceptedFinish isFinishOf anyFinish closedBySlot tableAfter joinedBy slotOf idle ran ranLast acceptedCall refusedCall closedIn threeTasks claims allTrue
+unfolding computing saysRan saysFinished slotCount upToSlot ranWhole acceptedFinish isFinishOf anyFinish closedBySlot tableAfter joinedBy slotOf idle ranOn ranLast acceptedCall refusedCall closedIn threeTasks claims allTrue
 claims-hold = refl
 
 -- a slot of a log made by hand in which task 2 is late

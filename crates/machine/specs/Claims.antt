@@ -4,7 +4,7 @@ use Prim.Native.Nat.{ℕ}
 use mathlib.Core.Bool.{Bool, true, false, not}
 use mathlib.Core.List.{List, [], _∷_}
 use lib.Dec.{eqb}
-use lib.ListN.{getD}
+use lib.ListN.{getD, replicate}
 use Rattle.laws.specs.Sums.{bit}
 use Rattle.tasks.specs.declared.table.Table.{Table}
 use Rattle.tasks.specs.declared.outcome.Outcome.the-variants.{Done, Refused}
@@ -31,8 +31,8 @@ unfoldable pub idle : Entry
 idle = slotOf false false
 
 -- a slot in which it ran and did not finish
-unfoldable pub ran : Entry
-ran = slotOf true false
+unfoldable pub ranOn : Entry
+ranOn = slotOf true false
 
 -- a slot in which it ran and finished
 unfoldable pub ranLast : Entry
@@ -50,9 +50,9 @@ refusedCall call = record { call = call; outcome = Refused unsoundMachine 0; rep
 unfoldable pub closedIn : (need deadline : ℕ) → List Entry → Bool
 closedIn need deadline log = closedBySlot 1 need deadline log
 
--- document 01's example table, of three tasks
+-- a table of three tasks
 unfoldable pub threeTasks : Table
-threeTasks = tableOf (task 4 1 4 ∷ task 6 2 5 ∷ task 10 6 8 ∷ [])
+threeTasks = tableOf (replicate 3 (task 6 2 5))
 
 -- what the claim says of logs
 unfoldable pub claims : List Bool
@@ -63,16 +63,16 @@ claims =
     closedIn 1 2 (idle ∷ refusedCall (Slot 1) ∷ ranLast ∷ []) ∷
     eqb (slotCount (idle ∷ refusedCall (Slot 1) ∷ acceptedCall (Finish 1) ∷ ranLast ∷ [])) 2 ∷
     -- the whole need, and the last of its slots says that the task finished
-    closedIn 2 3 (ran ∷ idle ∷ ranLast ∷ []) ∷
+    closedIn 2 3 (ranOn ∷ idle ∷ ranLast ∷ []) ∷
     not (closedIn 2 3 (idle ∷ idle ∷ ranLast ∷ [])) ∷
-    not (closedIn 2 3 (ran ∷ ran ∷ idle ∷ [])) ∷
-    not (closedIn 2 3 (ran ∷ ran ∷ ranLast ∷ [])) ∷
-    not (closedIn 3 3 (ran ∷ ranLast ∷ idle ∷ [])) ∷
-    closedIn 4 4 (ran ∷ ran ∷ ran ∷ ranLast ∷ []) ∷
+    not (closedIn 2 3 (ranOn ∷ ranOn ∷ idle ∷ [])) ∷
+    not (closedIn 2 3 (ranOn ∷ ranOn ∷ ranLast ∷ [])) ∷
+    not (closedIn 3 3 (ranOn ∷ ranLast ∷ idle ∷ [])) ∷
+    closedIn 4 4 (ranOn ∷ ranOn ∷ ranOn ∷ ranLast ∷ []) ∷
     closedIn 2 2 (ranLast ∷ ranLast ∷ []) ∷
     not (closedIn 1 1 (slotOf false true ∷ [])) ∷
     -- what a refused slot says does not count
-    closedIn 1 1 (record { call = Slot 1; outcome = Refused 14 0; report = ran .report } ∷ ranLast ∷ []) ∷
+    closedIn 1 1 (record { call = Slot 1; outcome = Refused 14 0; report = ranOn .report } ∷ ranLast ∷ []) ∷
     -- no other call counts as a slot or as a finish
     closedIn 1 2 (acceptedCall (Release 2 1) ∷ idle ∷ ranLast ∷ []) ∷
     not (closedIn 1 1 (acceptedCall (Release 1 1) ∷ idle ∷ [])) ∷

@@ -7,18 +7,18 @@ use mathlib.Core.Path.{_≡_, refl, sym, _∙_}
 use mathlib.Core.Bool.{Bool, true, false, cond, _&&_, and-false}
 use mathlib.Core.List.{List, [], _∷_}
 use borrow.Author.Tests.{ltb-true}
-use lib.Dec.{ltb}
+use lib.Dec.{eqb, ltb}
 use lib.ListN.{length, getD, set}
 use Rattle.laws.proofs.CaseSplits.{by-test, not-both}
 use Rattle.laws.proofs.Booleans.{and-left, and-right}
 use Rattle.laws.proofs.Parts.{from, past, from-drop, from-length}
-use Rattle.text.specs.Lines.{lineEnd, space, has, before, after, field}
+use Rattle.text.specs.Lines.{lineEnd, space, has, before, after, fieldCount, field}
 use Rattle.text.specs.Number.{isDigit, decimal, numberUpTo}
-use Rattle.text.specs.Fields.{areThree}
+use Rattle.text.specs.Fields.{eachNumber, areNumbers}
 use Rattle.text.specs.declared.number.Before.the-variants.{Read}
 use Rattle.text.proofs.Split.{here, has-past, cut}
 use Rattle.text.proofs.NumberLaws.{no-other}
-use Rattle.text.proofs.NumbersOn.{numbersOn, are-three, on-line}
+use Rattle.text.proofs.NumbersOn.{numbersOn, are-numbers, on-line}
 use Rattle.text.proofs.ThreeNumbers as Three
 use Rattle.tasks.specs.declared.task.Task.{Task}
 use Rattle.reader.specs.declared.names.Columns.{Columns}
@@ -84,10 +84,20 @@ first-value n s =
     rw (on-line 7 largest n s, value-number (before space s))
     (by-test (valueUpTo space s) (λ t. rw (t, same-end s t)) (λ t. rw (t, and-false (has lineEnd s))))
 
+-- three tests after another, one by one and from the last
+three-and : (t a b c : Bool) → (t && a && b && c) ≡ (t && (a && (b && (c && true))))
+three-and false a b c = refl
+three-and true false b c = refl
+three-and true true false c = refl
+three-and true true true false = refl
+three-and true true true true = refl
+
 -- three values are three numbers
-three-values : (l : List ℕ) → threeValues l ≡ areThree 7 largest l
-unfolding threeValues areThree
-three-values l = rw (value-number (field 0 l), value-number (field 1 l), value-number (field 2 l))
+three-values : (l : List ℕ) → threeValues l ≡ areNumbers 7 largest 3 l
+unfolding threeValues areNumbers eachNumber field
+three-values l =
+    rw (value-number (field 0 l), value-number (field 1 l), value-number (field 2 l))
+    (three-and (eqb (fieldCount l) 3) (isValue (field 0 l)) (isValue (field 1 l)) (isValue (field 2 l)))
 
 -- the tests as the code makes them
 tests :
@@ -96,7 +106,7 @@ tests :
     ≡ (valueUpTo space s && (valueUpTo space (after space s) && valueUpTo lineEnd (after space (after space s))))
 unfolding beginsWithValues numbersOn
 tests s =
-    rw (three-values (before lineEnd s), are-three 7 largest (before lineEnd s), first-value 1 s, first-value 0 (after space s), value-number)
+    rw (three-values (before lineEnd s), are-numbers 7 largest 2 (before lineEnd s), first-value 1 s, first-value 0 (after space s), value-number)
 
 three-sets : (vs : List ℕ) (x y z : ℕ) → length vs ≡ 3 → set (set (set vs 0 x) 1 y) 2 z ≡ x ∷ y ∷ z ∷ []
 three-sets [] x y z l = absurd (omega arith)

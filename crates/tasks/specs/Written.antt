@@ -1,4 +1,4 @@
--- Tasks and tables written out, for worked examples.
+-- Tasks and tables written out, for worked examples and for the cases that the session program plays.
 use Prim.Native.Nat.{ℕ}
 use mathlib.Core.List.{List, [], _∷_}
 use Rattle.tasks.specs.declared.task.Task.{Task}

@@ -1,12 +1,12 @@
 -- Lines of so many numbers. Others cite: `no-numbers`, `first-none`, `first-only` and `first-then`, whether a line is so many numbers by its first field;
--- `are-numbers`, that a line of numbers is numbers with a space after each and one more, as `numbersOn`, and `are-three`; `on-line` and `first-on`, of the
+-- `are-numbers`, that a line of numbers is numbers with a space after each and one more, as `numbersOn`; `on-line` and `first-on`, of the
 -- first number of a text's line; `unspaced`, and `no-line-end`, that no byte 10 is in a line of numbers.
 use Prim.Native.Nat.{ℕ, zero, suc, _+_}
 use native.Mathlib.Omega.{arith}
 use mathlib.Core.Path.{_≡_, refl, sym, ap, _∙_}
-use mathlib.Core.Bool.{Bool, true, false, _&&_, and-false, and-assoc}
+use mathlib.Core.Bool.{Bool, true, false, _&&_, and-false}
 use mathlib.Core.List.{List}
-use borrow.Author.Tests.{eq-eqb, ne-eqb}
+use borrow.Author.Tests.{ne-eqb}
 use lib.Dec.{eqb}
 use lib.ListN.{length, length-append}
 use Rattle.laws.proofs.CaseSplits.{by-test, not-both}
@@ -14,7 +14,7 @@ use Rattle.laws.proofs.Booleans.{and-left, and-right}
 use Rattle.laws.proofs.Tests.{same-eqb}
 use Rattle.text.specs.Lines.{lineEnd, space, has, before, after, fieldCount, field}
 use Rattle.text.specs.Number.{isDigit, isNumber}
-use Rattle.text.specs.Fields.{areThree, eachNumber, areNumbers}
+use Rattle.text.specs.Fields.{eachNumber, areNumbers}
 use Rattle.text.proofs.Split.{here, gone, has-after, inner, outer}
 use Rattle.text.proofs.NumberLaws.{no-other}
 use Rattle.text.proofs.FieldLaws.{count-one, count-more, count-positive}
@@ -71,28 +71,6 @@ module _ (k largest : ℕ) where
       (λ h. rw (first-then (suc n) l h t, h, t) (are-numbers n (after space l)))
       (λ h. rw h (first-only (suc n) l h t ∙ ne-eqb (suc (suc n)) 1 (λ e. omega arith))))
       (λ f. rw (first-none (suc n) l f, f, and-false (has space l)))
-
-  -- a line of three numbers
-  pub are-three : (l : List ℕ) → areThree k largest l ≡ numbersOn 2 l
-  unfolding areThree numbersOn field
-  are-three l =
-      let r = after space l in
-      let t = after space r in
-      by-test (has space l)
-      (λ h.
-      by-test (has space r)
-      (λ h₁.
-      by-test (has space t)
-      (λ h₂.
-      let n = ne-eqb (fieldCount l) 3 (λ e. omega (arith, count-more l h, count-more r h₁, count-more t h₂, count-positive (after space t))) in
-      rw (n, h, h₁, spaced t h₂, and-false (isNumber k largest (before space r)), and-false (isNumber k largest (before space l))))
-      (λ h₂.
-      let n = eq-eqb (fieldCount l) 3 (omega (arith, count-more l h, count-more r h₁, count-one t h₂)) in
-      rw (n, h, h₁, gone space t h₂) (and-assoc (isNumber k largest (before space l)) (isNumber k largest (before space r)) (isNumber k largest t))))
-      (λ h₁.
-      let n = ne-eqb (fieldCount l) 3 (λ e. omega (arith, count-more l h, count-one r h₁)) in
-      rw (n, h, h₁, and-false (isNumber k largest (before space l)))))
-      (λ h. let n = ne-eqb (fieldCount l) 3 (λ e. omega (arith, count-one l h)) in rw (n, h))
 
   -- a byte 10 is in none of them
   ended : (n : ℕ) (l : List ℕ) → has lineEnd l ≡ true → numbersOn n l ≡ false

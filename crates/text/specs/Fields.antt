@@ -24,8 +24,3 @@ unfoldable pub threeNumbers : (digits largest : ℕ) → List ℕ → Numbers
 threeNumbers digits largest s =
     let l = before lineEnd s in
     cond (areNumbers digits largest 3 l) (Numbers.Three (decimal (field 0 l)) (decimal (field 1 l)) (decimal (field 2 l)) (length l)) Numbers.Broken
-
--- whether a line is three numbers, each of at most so many digits and at most `largest`
-unfoldable pub areThree : (digits largest : ℕ) → List ℕ → Bool
-areThree digits largest l =
-    eqb (fieldCount l) 3 && isNumber digits largest (field 0 l) && isNumber digits largest (field 1 l) && isNumber digits largest (field 2 l)

@@ -13,10 +13,10 @@ use Rattle.cores.proofs.assign.assign.Statement.{statement}
 use Rattle.cores.proofs.assign.assign.Tie as tie
 
 abbrev Inv-loop : tie.InvT-loop
-Inv-loop runners available cores₀ used₀ n₀ cores used n = (n ≤ length runners) × Taking available runners cores₀ cores used n
+Inv-loop runners available cores₀ used₀ n₀ assigned used n = (n ≤ length runners) × Taking available runners cores₀ assigned used n
 
 abbrev μ-loop : tie.MeasureT-loop
-μ-loop runners available cores₀ used₀ n₀ cores used n = length runners - n
+μ-loop runners available cores₀ used₀ n₀ assigned used n = length runners - n
 
 keep-requires : tie.Need-keep-requires Inv-loop μ-loop
 keep-requires c κs = (refl, refl)

@@ -8,10 +8,10 @@ use Rattle.cores.proofs.assign.keep.Statement.{statement}
 use Rattle.cores.proofs.assign.keep.Tie as tie
 
 abbrev Inv-loop : tie.InvT-loop
-Inv-loop runners available cores₀ used₀ recorded n₀ cores used n = Keeping recorded available runners cores used n
+Inv-loop runners available cores₀ used₀ recorded n₀ assigned used n = Keeping recorded available runners assigned used n
 
 abbrev μ-loop : tie.MeasureT-loop
-μ-loop runners available cores₀ used₀ recorded n₀ cores used n = n
+μ-loop runners available cores₀ used₀ recorded n₀ assigned used n = n
 
 loop-holds : tie.Need-loop-holds Inv-loop μ-loop
 loop-holds c =
