@@ -33,8 +33,7 @@ mul-interference c = omega (arith, computed (c .before) .budgets, computed (c .b
 -- Each of the three terms is at most the window or the budget.
 add-interference : tie.Need-add-interference
 add-interference c =
-    let g = computed (c .before .before) in
-    omega (arith, g .budgets, g .within, c .min .ensures)
+    omega (arith, computed (c .before .before) .budgets, computed (c .before .before) .within, c .min .ensures)
 
 add-interference-2 : tie.Need-add-interference-2
 add-interference-2 c =
