@@ -4,15 +4,15 @@ ghost use mathlib.Core.Path.{_≡_};
 ghost use Rattle.reader.specs.Names.{columnIn, columnsIn, eachNamed};
 ghost use Rattle.reader.specs.Parts.{namesLine};
 
+// The column of a name that none of the three fields is.
+const NO_COLUMN: usize = 3;
+
 // Where each value stands in a line of values, from 0.
 pub struct Columns {
     pub period: usize,
     pub budget: usize,
     pub deadline: usize,
 }
-
-// The column of a name that no field is.
-const NO_COLUMN: usize = 3;
 
 impl Columns {
     // Whether each name is one of the three fields.
@@ -65,7 +65,8 @@ fn columns_in(first: &[u8], second: &[u8], third: &[u8]) -> Columns
     }
 }
 
-// The names line that a text begins with: its fields are cut out of the text, two up to a space and one up to the byte 10.
+// The names line that a text begins with. Its fields are cut out of the text, two up to a space and the last up to the byte 10: one that goes past
+// the end of the line has a byte 10 in it, and is no name.
 pub fn names_line(text: &[u8]) -> NamesLine
     ensures { λ r. ⌜ r ≡ namesLine (now (text .entry)) ⌝ }
 {

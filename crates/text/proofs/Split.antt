@@ -1,6 +1,6 @@
 -- A text split at its first byte b: laws of `has`, `before` and `after`. Others cite `here` (b is in the text: its three parts), `gone` and
--- `gone-rest` (it is not), `before-fits` and `before-front` (either), `has-of` and `hasnt-of` (which of the two, by how many bytes stand before b), `cut` (the parts as the code has them), and
--- `inner`, `outer` and `has-after` (which of two bytes comes first).
+-- `gone-rest` (it is not), `before-fits` and `before-front` (either), `has-of` and `hasnt-of` (which of the two, by how many bytes stand before b),
+-- `cut` (the parts as the code has them), and `inner`, `outer`, `has-past` and `has-after` (which of two bytes comes first).
 use Prim.Native.Nat.{ℕ, _+_, _≤_, _<_}
 use native.Mathlib.Nat.{le-refl, lt-irrefl, not-le-of-lt}
 use native.Mathlib.Omega.{arith}
