@@ -13,7 +13,7 @@ ghost use Rattle.reader.specs.Names.{eachNamed};
 ghost use Rattle.reader.specs.Reading.{beginsWithValues};
 
 // The longest value, in digits.
-const MAX_DIGITS: usize = 7;
+const VALUE_DIGITS: usize = 7;
 
 // Puts the value that stands before the first byte `end` of a text into one of three places: how many bytes the value has. Where no value stands
 // there, or it is not ended, that is 0, and nothing is put.
@@ -41,7 +41,7 @@ fn value_up_to(text: &[u8], end: u8, values: &mut [u32; 3], place: usize) -> usi
         if b'9' < byte {
             return 0;
         }
-        if MAX_DIGITS <= i {
+        if VALUE_DIGITS <= i {
             return 0;
         }
         if number == 0 {

@@ -1,5 +1,6 @@
--- Laws of `sameBytes` and `beginsWith`: two texts that are compared up to a place, how long they are, that texts that are the same are equal (`same-is`),
--- and that a text begins with a word where as many of its first bytes are the same (`same-begins`).
+-- Laws of `sameBytes` and `beginsWith`. Others cite: of two texts that are compared up to a place `same-next` and `all-agree`, and by how long they are
+-- `other-length`; that texts that are the same are equal (`same-is`); and that a text begins with a word where as many of its first bytes are the same
+-- (`same-begins`), with `longer` and `not-longer`.
 use Prim.Native.Nat.{ℕ, suc, _+_, _≤_, _<_}
 use native.Mathlib.Numerals.{add-one}
 use native.Mathlib.Omega.{arith}
@@ -22,7 +23,7 @@ same-is (x ∷ s) [] h = absurd (false≢true h)
 same-is (x ∷ s) (y ∷ t) h =
     rw (eqb-true x y (and-left (eqb x y) (sameBytes s t) h), same-is s t (and-right (eqb x y) (sameBytes s t) h))
 
-pub same-length : (s t : List ℕ) → sameBytes s t ≡ true → length s ≡ length t
+same-length : (s t : List ℕ) → sameBytes s t ≡ true → length s ≡ length t
 same-length s t h = ap length (same-is s t h)
 
 pub other-length : (s t : List ℕ) → (length s ≡ length t → ⊥) → false ≡ sameBytes s t
