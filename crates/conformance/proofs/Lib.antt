@@ -4,3 +4,4 @@ pub mod Computing
 pub mod CasesHold
 pub mod ExamplesHold
 pub mod ManyTasksHold
+pub mod CheaperInTimeHolds

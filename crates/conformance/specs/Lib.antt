@@ -7,3 +7,4 @@ pub mod CallExamples
 pub mod CoreExamples
 pub mod NeedExamples
 pub mod ManyTasks
+pub mod CheaperInTime

@@ -8,7 +8,8 @@ use Rattle.edzl.specs.TaskSet.{TaskSet}
 use Rattle.edzl.proofs.WellFormed.{WellFormed}
 use Rattle.edzl.specs.Window.{spare}
 use Rattle.laws.proofs.CaseSplits.{by-order, not-both}
-use Rattle.edzl.proofs.WindowLaws.{SameTask, window-more, part-grows}
+use Rattle.edzl.proofs.WindowLaws.{SameTask, window-more}
+use Rattle.edzl.proofs.CheaperLaws.{shorter-cheaper, part-no-larger}
 use Rattle.edzl.proofs.Invariant.{Jobs, NoJob, Bound, Invariant, SameJob, allowance, claim, invariant, of-task, held-closed}
 use Rattle.edzl.proofs.BoundLaws.{claim-start, bound-moved, claim-same, lost-same, held-same}
 
@@ -29,8 +30,8 @@ module _ (shorter longer : TaskSet) (slack slack' : ℕ → ℕ) (m : ℕ) (well
   module _ (before after : Jobs) (step : Joined shorter longer before after) (inv : Invariant shorter slack m before) where
     -- The old tasks are allowed no less.
     allowance-old : (k i : ℕ) → k < shorter .count → i < shorter .count → allowance shorter slack k i ≤ allowance longer slack' k i
-    unfolding allowance
-    allowance-old k i h = part-grows shorter longer well (omega arith) (step .same-tasks) slack slack' (less .no-larger) k h i
+    unfolding allowance shorter-cheaper
+    allowance-old = part-no-larger longer shorter well (shorter-cheaper shorter longer (omega arith) (step .same-tasks)) slack' slack (less .no-larger)
 
     -- The new task claims no more than it is allowed, from a job that has at most its whole deadline.
     claim-new : (l k : ℕ) → l ≤ longer .deadline k → claim longer after l (shorter .count) ≤ allowance longer slack' k (shorter .count)

@@ -12,8 +12,12 @@ pub mod Choice
 pub mod Slot
 pub mod SlotKeeps
 pub mod SlackLaws
+pub mod CappedSums
+pub mod CheaperLaws
 pub mod SlackRounds
 pub mod Safe
 pub mod SlackSame
+pub mod SlackStays
 pub mod SlackExamplesHold
 pub mod SumExamplesHold
+pub mod CheaperExamplesHold

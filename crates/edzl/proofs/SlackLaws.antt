@@ -1,8 +1,8 @@
--- Laws of a new slack: `new-none` and `new-some`, what it is by whether the sum reaches. Others cite `new-fits` and `new-antitone`; `new-ahead`, by which a job is
--- ahead by it; and `new-rounded`, what it is without that test.
+-- Laws of a new slack: `new-none` and `new-some`, what it is by whether the sum reaches, and `none-reaches`, that it is 0 in no other case. Others cite `new-fits`;
+-- `new-antitone` and `new-more-cores`, by which it is no smaller; `new-ahead`, by which a job is ahead by it; and `new-rounded`, what it is without that test.
 use Prim.Native.Nat.{ℕ, _+_, _*_, _-_, _/_, _%_, _≤_, _<_}
 use mathlib.Core.Path.{_≡_, sym, ap, _∙_}
-use native.Mathlib.Nat.{mul-comm, lt-of-mul-lt-mul-left, le-div-iff-mul-le, div-mul-le-self, div-add-mod', div-eq-of-lt-le, mod-lt}
+use native.Mathlib.Nat.{mul-comm, mul-le-mul-left, mul-le-mul-right, lt-of-mul-lt-mul-left, le-div-iff-mul-le, div-mul-le-self, div-add-mod', div-eq-of-lt-le, mod-lt}
 use native.Mathlib.Omega.{arith}
 use borrow.Author.Tests.{le-leb, lt-leb}
 use Rattle.laws.proofs.CaseSplits.{by-order}
@@ -30,6 +30,15 @@ module _ (m A sum : ℕ) where
   pub new-fits : newSlack m A sum ≤ A
   new-fits = by-order (m * A) sum (λ h. rw (new-none h) (omega arith)) (λ h. rw (new-some h) (omega arith))
 
+  -- It is 0 only where the sum reaches.
+  pub none-reaches : newSlack m A sum ≡ 0 → m * A ≤ sum
+  none-reaches none =
+      by-order (m * A) sum
+      (λ h. h)
+      (λ h.
+      let all-used : A ≤ sum / m = omega (arith, new-some h) in
+      absurd (omega (arith, le-div-iff-mul-le (some-cores h) .0 all-used, mul-comm m A)))
+
 -- It is no larger where the sum is no smaller.
 pub new-antitone : (m A sum sum' : ℕ) → sum ≤ sum' → newSlack m A sum' ≤ newSlack m A sum
 new-antitone m A sum sum' l =
@@ -38,6 +47,18 @@ new-antitone m A sum sum' l =
     (λ h.
     let quotients : sum / m ≤ sum' / m = le-div-iff-mul-le (some-cores m A sum' h) .1 (omega (arith, div-mul-le-self sum m)) in
     rw (new-some m A sum' h, new-some m A sum (omega arith)) (omega arith))
+
+-- It is no smaller on more cores.
+pub new-more-cores : (m m' A sum : ℕ) → m ≤ m' → newSlack m A sum ≤ newSlack m' A sum
+new-more-cores m m' A sum more =
+    by-order (m * A) sum
+    (λ h. rw (new-none m A sum h) (omega arith))
+    (λ h.
+    let below : sum < m' * A = omega (arith, mul-le-mul-right A more) in
+    let quotients : sum / m' ≤ sum / m =
+    le-div-iff-mul-le (some-cores m A sum h) .1 (omega (arith, mul-le-mul-left (sum / m') more, div-mul-le-self sum m'))
+    in
+    rw (new-some m A sum h, new-some m' A sum below) (omega arith))
 
 -- A job that is in time and has lost at most what the sum gives for each core is ahead by the new slack.
 pub new-ahead : (m A sum budget left : ℕ) → budget ≤ left → m * ((A + budget) - left) ≤ sum → budget + newSlack m A sum ≤ left

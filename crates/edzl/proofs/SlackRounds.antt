@@ -12,11 +12,13 @@ use borrow.Author.Tests.{le-leb, leb-true}
 use Rattle.laws.proofs.Replaced.{replaced-at}
 use Rattle.edzl.specs.TaskSet.{TaskSet}
 use Rattle.edzl.specs.Window.{spare, noSlack, windowSum, mayTurnUrgent, countUrgent, admitted}
+use Rattle.edzl.specs.Cheaper.{CheaperTasks}
 use Rattle.edzl.specs.Slack.{perTask, ofTask, roundSums, reaches, newSlack, Rounds, noRound, nextRound, roundsFrom, allRounds, countReaching, slackAdmits}
 use Rattle.edzl.proofs.WellFormed.{WellFormed}
-use Rattle.laws.proofs.SumLaws.{sum-same, sum-monotone, bit-monotone}
-use Rattle.edzl.proofs.SlackLaws.{new-fits, new-antitone}
-use Rattle.edzl.proofs.WindowLaws.{SameTask, same-task, spare-same, sum-of-same, sum-grows, admitted-few}
+use Rattle.laws.proofs.SumLaws.{sum-same}
+use Rattle.edzl.proofs.SlackLaws.{new-fits}
+use Rattle.edzl.proofs.WindowLaws.{SameTask, same-task, sum-of-same, admitted-few}
+use Rattle.edzl.proofs.CheaperLaws.{shorter-cheaper, new-no-smaller, count-no-larger}
 
 -- The round of a number, made whether or not a slack changed in the one before; and its slack of each task.
 unfoldable pub roundAfter : TaskSet → (m r : ℕ) → Rounds
@@ -51,40 +53,46 @@ module _ (tasks : TaskSet) (m : ℕ) where
   slacks-fit zero i h = rw (slack-start i h) (omega arith)
   slacks-fit (suc r) i h = rw (slack-next r i h) (new-fits m (spare tasks i) _)
 
--- A longer set has slacks no larger in each round.
-module _ (shorter longer : TaskSet) (well : WellFormed longer) (longer-is : shorter .count ≤ longer .count) where
-  module _ (same : (i : ℕ) → i < shorter .count → SameTask shorter longer i) (m : ℕ) where
-    -- A round keeps slacks that are no larger.
-    next-longer : (r r' : ℕ) →
-        ((i : ℕ) → i < shorter .count → slackAfter longer m r' i ≤ slackAfter shorter m r i) →
-        (i : ℕ) → i < shorter .count → slackAfter longer m (suc r') i ≤ slackAfter shorter m (suc r) i
-    next-longer r r' no-larger i h =
-        rw (slack-next longer m r' i (omega arith), slack-next shorter m r i h, spare-same shorter longer i (same i h))
-        (new-antitone m (spare shorter i) _ _
-        (sum-grows shorter longer well longer-is same (slackAfter shorter m r) (slackAfter longer m r') no-larger i h))
+-- A cheaper set has slacks no smaller in each round.
+module _ (dearer cheaper : TaskSet) (well : WellFormed dearer) (c : CheaperTasks dearer cheaper) (m m' : ℕ) (cores : m ≤ m') where
+  -- A round keeps slacks that are no smaller.
+  next-cheaper : (r r' : ℕ) →
+      ((i : ℕ) → i < cheaper .count → slackAfter dearer m r (c .was i) ≤ slackAfter cheaper m' r' i) →
+      (i : ℕ) → i < cheaper .count → slackAfter dearer m (suc r) (c .was i) ≤ slackAfter cheaper m' (suc r') i
+  next-cheaper r r' no-smaller i h =
+      rw (slack-next dearer m r (c .was i) (c .was-there i h), slack-next cheaper m' r' i h)
+      (new-no-smaller dearer cheaper well c (slackAfter dearer m r) (slackAfter cheaper m' r') no-smaller i h m m' cores)
 
-    pub slacks-longer : (r i : ℕ) → i < shorter .count → slackAfter longer m r i ≤ slackAfter shorter m r i
-    slacks-longer zero i h = rw (slack-start longer m i (omega arith)) (omega arith)
-    slacks-longer (suc r) i h = next-longer r r (slacks-longer r) i h
+  pub slacks-cheaper : (r i : ℕ) → i < cheaper .count → slackAfter dearer m r (c .was i) ≤ slackAfter cheaper m' r i
+  slacks-cheaper zero i h = rw (slack-start dearer m (c .was i) (c .was-there i h)) (omega arith)
+  slacks-cheaper (suc r) i h = next-cheaper r r (slacks-cheaper r) i h
+
+-- A longer set has slacks no larger in each round: the shorter one is cheaper.
+pub slacks-longer : (shorter longer : TaskSet) →
+    WellFormed longer →
+    shorter .count ≤ longer .count →
+    ((i : ℕ) → i < shorter .count → SameTask shorter longer i) →
+    (m r i : ℕ) →
+    i < shorter .count →
+    slackAfter longer m r i ≤ slackAfter shorter m r i
+unfolding shorter-cheaper
+slacks-longer shorter longer well longer-is same m = slacks-cheaper longer shorter well (shorter-cheaper shorter longer longer-is same) m m (le-refl m)
 
 module _ (tasks : TaskSet) (well : WellFormed tasks) (m : ℕ) where
+  -- A set against itself.
+  abbrev itself : CheaperTasks tasks tasks
+  itself = shorter-cheaper tasks tasks (le-refl _) (λ i h. same-task tasks i)
+
   -- Slacks only grow from round to round.
   pub slacks-grow : (r i : ℕ) → i < tasks .count → slackAfter tasks m r i ≤ slackAfter tasks m (suc r) i
+  unfolding shorter-cheaper
   slacks-grow zero i h = rw (slack-start tasks m i h) (omega arith)
-  slacks-grow (suc r) i h = next-longer tasks tasks well (le-refl _) (λ i h. same-task tasks i) m (suc r) r (slacks-grow r) i h
-
-  -- The sum of a task with the slacks of a round is at most that with none.
-  sum-within : (r k : ℕ) → k < tasks .count → windowSum tasks (slackAfter tasks m r) k ≤ windowSum tasks noSlack k
-  unfolding noSlack
-  sum-within r k h =
-      sum-grows tasks tasks well (le-refl _) (λ i l. same-task tasks i) (slackAfter tasks m r) noSlack (λ i l. omega arith) k h
+  slacks-grow (suc r) i h = next-cheaper tasks tasks well itself m m (le-refl m) r (suc r) (slacks-grow r) i h
 
   -- No more tasks are counted with the slacks of a round than the window test counts.
   count-within : (r : ℕ) → countUrgent tasks (slackAfter tasks m r) m ≤ countUrgent tasks noSlack m
-  unfolding countUrgent mayTurnUrgent
-  count-within r =
-      sum-monotone _ _ (tasks .count)
-      (λ k h. bit-monotone _ _ (λ e. le-leb (m * spare tasks k) (windowSum tasks noSlack k) (le-trans (leb-true _ _ e) (sum-within r k h))))
+  unfolding noSlack
+  count-within r = count-no-larger tasks tasks well itself noSlack (slackAfter tasks m r) (λ i h. omega arith) m m (le-refl m)
 
 -- All rounds of a set come to one round, the last: the round of its number, which is at most 64.
 pub record LastRound (tasks : TaskSet) (m : ℕ) : Type 0 where

@@ -1,9 +1,8 @@
 -- Laws of the window test. Others cite: `SameTask`, that two sets agree on a task, with `same-task`; `spare-same`, `sum-of-same` and `count-same`, that the
--- test reads the tasks below the count only; `admitted-few`; and `window-more`, `part-grows` and `sum-grows`, that longer windows and more tasks take no less.
-use Prim.Native.Nat.{ℕ, _-_, _≤_, _<_, min}
+-- test reads the tasks below the count only; `admitted-few`; and `window-more`, that longer windows take no less.
+use Prim.Native.Nat.{ℕ, _≤_, _<_}
 use mathlib.Core.Path.{_≡_, refl, ap, _∙_}
 use mathlib.Core.Bool.{true}
-use native.Mathlib.Nat.{le-trans}
 use native.Mathlib.Omega.{arith}
 use borrow.Author.Tests.{leb-true}
 use Rattle.edzl.specs.TaskSet.{TaskSet}
@@ -11,7 +10,7 @@ use Rattle.edzl.specs.Window.{interference, spare, noSlack, windowSum, m
 use Rattle.laws.specs.Sums.{sumTo, bit}
 use Rattle.edzl.proofs.WellFormed.{WellFormed}
 use Rattle.edzl.proofs.InterferenceLaws.{monotone}
-use Rattle.laws.proofs.SumLaws.{sum-same, sum-longer, others-same, others-monotone}
+use Rattle.laws.proofs.SumLaws.{sum-same, others-same}
 
 -- One task is the same in both sets.
 pub record SameTask (shorter longer : TaskSet) (i : ℕ) : Type 0 where
@@ -57,28 +56,3 @@ unfolding WellFormed
 window-more tasks well i K L h l =
     let fits = well i h in
     monotone (tasks .period i) (tasks .budget i) (omega arith) (omega arith) K L l
-
--- A set with further tasks, in which no slack of the old ones is larger.
-module _ (shorter longer : TaskSet) (well : WellFormed longer) (longer-is : shorter .count ≤ longer .count) where
-  module _ (same : (i : ℕ) → i < shorter .count → SameTask shorter longer i) (slack slack' : ℕ → ℕ) where
-    module _ (no-larger : (i : ℕ) → i < shorter .count → slack' i ≤ slack i) (k : ℕ) (k-in : k < shorter .count) where
-      -- Each old task takes no less from one of them.
-      pub part-grows : (i : ℕ) → i < shorter .count →
-          interference (shorter .period i) (shorter .budget i) (shorter .deadline k - slack i)
-          ≤ interference (longer .period i) (longer .budget i) (longer .deadline k - slack' i)
-      part-grows i l =
-          let t = same i l in
-          let less = no-larger i l in
-          rw (same k k-in .same-deadline, ← t .same-period, ← t .same-budget)
-          (window-more longer well i (shorter .deadline k - slack i) (shorter .deadline k - slack' i) (omega arith) (omega arith))
-
-      -- The sum of an old task is no smaller.
-      pub sum-grows : windowSum shorter slack k ≤ windowSum longer slack' k
-      unfolding windowSum spare
-      sum-grows =
-          le-trans
-          (others-monotone _
-          (λ i. min (interference (longer .period i) (longer .budget i) (longer .deadline k - slack' i)) (longer .deadline k - longer .budget k))
-          k (shorter .count)
-          (λ i l ne. omega (arith, part-grows i l, same k k-in .same-deadline, same k k-in .same-budget)))
-          (sum-longer _ (shorter .count) (longer .count) longer-is)

@@ -65,6 +65,10 @@ roundsFrom tasks m (suc more) false rounds =
 unfoldable pub allRounds : TaskSet → (m : ℕ) → Rounds
 allRounds tasks m = roundsFrom tasks m 64 false (noRound tasks)
 
+-- The slack of each task after r rounds, or after the last where fewer are made.
+unfoldable pub slackOfRound : TaskSet → (m r : ℕ) → ℕ → ℕ
+slackOfRound tasks m r = ofTask (roundsFrom tasks m r false (noRound tasks) .slacks)
+
 -- "at most m sums of the last round reach m·A_k": how many do.
 unfoldable pub countReaching : TaskSet → (m : ℕ) → (sums : List ℕ) → ℕ
 countReaching tasks m sums = sumTo (tasks .count) (λ k. bit (reaches m (spare tasks k) (ofTask sums k)))

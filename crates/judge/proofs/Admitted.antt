@@ -18,6 +18,7 @@ use Rattle.judge.specs.declared.admission.Admission.the-variants.{Judged
 use Rattle.judge.specs.Judge.{judged}
 use Rattle.judge.specs.SlackJudge.{refusedBySlack, slackJudgedAfter, slackJudged, admissionValuesOf, admission}
 use Rattle.judge.proofs.Outcome.{admits-means}
+use Rattle.judge.proofs.SlackOutcome.{slack-outcome}
 
 -- an admission that was carried out
 pub record AdmissionIs (t : Table) (m : ℕ) (admits : Bool) : Type 0 where
@@ -32,8 +33,8 @@ pub record SlackAdmits (t : Table) (m : ℕ) : Type 0 where
 module _ (t : Table) (m : ℕ) where
   -- the refusals are those of judging
   pub admission-outcome : admission t m .outcome ≡ checked t m
-  unfolding admission slackJudged slackJudgedAfter refusedBySlack
-  admission-outcome = by-outcome (checked t m) (λ e. rw e) (λ number place e. rw e)
+  unfolding admission
+  admission-outcome = slack-outcome t m
 
   pub admission-numbered : Numbered (admission t m .outcome)
   admission-numbered = rw admission-outcome (checked-numbered t m)

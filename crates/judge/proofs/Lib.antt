@@ -1,6 +1,7 @@
 pub mod Outcome
 pub mod SlackOutcome
 pub mod Admitted
+pub mod StaysAdmitted
 pub mod Inverse
 pub mod OwnPart
 pub mod Listed
@@ -9,3 +10,4 @@ pub mod RoundsHeld
 pub mod Computing
 pub mod SlackExamplesHold
 pub mod SumsFit
+pub mod CheaperExamplesHold

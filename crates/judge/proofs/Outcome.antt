@@ -1,4 +1,5 @@
--- What a verdict says of the judging. Others cite `count-small`, and `admits-means`, of a table that is admitted.
+-- What a verdict says of the judging. Others cite `judged-outcome`, that its refusals are those of `checked`, and `judged-is`, what it says where there is none;
+-- `count-small`; and `admits-means`, of a table that is admitted.
 use Prim.Native.Nat.{ℕ, _≤_}
 use native.Mathlib.Omega.{arith}
 use mathlib.Core.Path.{_≡_, refl}
@@ -21,6 +22,14 @@ pub record Admits (t : Table) (m : ℕ) : Type 0 where
   pub admits : admitted (tasksOf t) m ≡ true
 
 module _ (t : Table) (m : ℕ) where
+  pub judged-outcome : judged t m .outcome ≡ checked t m
+  unfolding judged judgedAfter refusedValues
+  judged-outcome = by-outcome (checked t m) (λ e. rw e) (λ number place e. rw e)
+
+  pub judged-is : checked t m ≡ Out.Done → judged t m ≡ judgedAfter Out.Done t m
+  unfolding judged
+  judged-is e = rw e
+
   -- COUNT is at most the 32 tasks of a table
   pub count-small : judged t m .count ≤ maxTasks
   unfolding judged judgedAfter refusedValues countUrgent tasksOf firstTasks

@@ -1,6 +1,6 @@
--- The laws of sums over the indexes below n, of sums that leave one index out, and of bits. Others cite: `sum-same`, `sum-monotone`, `sum-strict`, `sum-one-more`,
--- `sum-longer`, `sum-bound`; `others-at`, `others-off`, `others-same`, `others-monotone`, `sum-others`, `others-bound`, `others-gain`; `bit-true`, `bit-false`,
--- `bit-small`, `bit-monotone` and `count-bound`.
+-- The laws of sums over the indexes below n, of sums that leave one index out, and of bits. Others cite: `sum-same`, `sum-monotone`, `sum-add`, `sum-times`,
+-- `sum-strict`, `sum-one-more`, `sum-longer`, `sum-bound`, `sum-picked`; `others-at`, `others-off`, `others-same`, `others-monotone`, `sum-others`, `others-bound`,
+-- `others-gain`, `others-picked`; `bit-true`, `bit-false`, `bit-small`, `bit-monotone` and `count-bound`.
 use Prim.Native.Nat.{ℕ, zero, suc, _+_, _*_, _≤_, _<_}
 use mathlib.Core.Path.{_≡_, refl, sym, ap, ap₂}
 use mathlib.Core.Bool.{Bool, true, false}
@@ -8,7 +8,7 @@ use native.Mathlib.Nat.{le-refl, not-suc-le-zero}
 use native.Mathlib.Omega.{arith}
 use borrow.Author.Tests.{eq-eqb, ne-eqb}
 use Rattle.laws.specs.Sums.{sumTo, bit, others}
-use Rattle.laws.proofs.CaseSplits.{by-equal, by-test}
+use Rattle.laws.proofs.CaseSplits.{by-order, by-equal, by-test}
 use Rattle.laws.proofs.Below.{down}
 use Rattle.laws.proofs.Steps.{by-steps}
 
@@ -24,10 +24,15 @@ module _ (f g : ℕ → ℕ) where
   sum-monotone zero h = le-refl _
   sum-monotone (suc n) h = omega (arith, sum-monotone n (down n h), h n (omega arith))
 
-  sum-add : (n : ℕ) → sumTo n (λ i. f i + g i) ≡ sumTo n f + sumTo n g
+  pub sum-add : (n : ℕ) → sumTo n (λ i. f i + g i) ≡ sumTo n f + sumTo n g
   unfolding sumTo
   sum-add zero = refl
   sum-add (suc n) = omega (arith, sum-add n)
+
+pub sum-times : (f : ℕ → ℕ) (c n : ℕ) → sumTo n (λ i. f i * c) ≡ sumTo n f * c
+unfolding sumTo
+sum-times f c zero = omega arith
+sum-times f c (suc n) = omega (arith, sum-times f c n)
 
 -- Where each term grows by what g gives it, and g gives m in all, the sum grows by m.
 sum-gain : (f g h : ℕ → ℕ) (n m : ℕ) → m ≤ sumTo n g → ((i : ℕ) → i < n → f i + g i ≤ h i) → sumTo n f + m ≤ sumTo n h
@@ -38,6 +43,22 @@ sum-gain f g h n m given each =
 pub sum-longer : (f : ℕ → ℕ) (n p : ℕ) → n ≤ p → sumTo n f ≤ sumTo p f
 unfolding sumTo
 sum-longer f = by-steps (λ n. sumTo n f) (λ n. omega arith)
+
+-- Terms picked in rising order out of a longer sum, where each is no smaller: no larger sum.
+pub sum-picked : (f g p : ℕ → ℕ) (n all : ℕ) →
+    ((i : ℕ) → i < n → p i < all) →
+    ((i j : ℕ) → i < j → j < n → p i < p j) →
+    ((i : ℕ) → i < n → f i ≤ g (p i)) →
+    sumTo n f ≤ sumTo all g
+unfolding sumTo
+sum-picked f g p zero all within rising each = omega arith
+sum-picked f g p (suc n) all within rising each =
+    omega (
+      arith,
+      sum-picked f g p n (p n) (λ i h. rising i n h (omega arith)) (λ i j l h. rising i j l (omega arith)) (down n each),
+      each n (omega arith),
+      sum-longer g (suc (p n)) all (within n (omega arith)),
+    )
 
 -- n terms, each at most b.
 pub sum-bound : (f : ℕ → ℕ) (b n : ℕ) → ((i : ℕ) → i < n → f i ≤ b) → sumTo n f ≤ n * b
@@ -106,6 +127,24 @@ others-gain f g h k n m given none each =
     by-equal i k
     (λ e. omega (arith, others-at f e, others-at h e, ap g e))
     (λ ne. omega (arith, others-off f ne, others-off h ne, each i l ne))
+
+-- `sum-picked` where k is left out of the picked terms, and what k was picked from out of all.
+pub others-picked : (f g p : ℕ → ℕ) (k n all : ℕ) → k < n →
+    ((i : ℕ) → i < n → p i < all) →
+    ((i j : ℕ) → i < j → j < n → p i < p j) →
+    ((i : ℕ) → i < n → (i ≡ k → ⊥) → f i ≤ g (p i)) →
+    sumTo n (others k f) ≤ sumTo all (others (p k) g)
+others-picked f g p k n all k-in within rising each =
+    sum-picked (others k f) (others (p k) g) p n all within rising λ i l.
+    by-equal i k
+    (λ e. rw (others-at f e) (omega arith))
+    (λ ne. rw (others-off f ne, others-off g (apart i l ne)) (each i l ne))
+  where
+    apart : (i : ℕ) → i < n → (i ≡ k → ⊥) → p i ≡ p k → ⊥
+    apart i l ne same =
+        by-order i k
+        (λ before. omega (arith, rising i k (omega arith) k-in))
+        (λ after. omega (arith, rising k i after l))
 
 -- Bits.
 pub bit-true : (t : Bool) → t ≡ true → bit t ≡ 1

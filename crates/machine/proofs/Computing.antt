@@ -1,10 +1,6 @@
 -- What a computed test looks through, in one name: a proof `unfolding computing` computes verdicts and runs of the machine.
 use mathlib.Core.Bool.{Bool, true}
-use Rattle.tasks.specs.Task.{inRange}
-use Rattle.tasks.specs.Table.{zeroTask, emptyTable, withTask}
-use Rattle.tasks.specs.Check.{firstOutOfRange, coresInRange, checked}
-use Rattle.tasks.specs.Outcome.{isDone}
-use Rattle.tasks.specs.TaskSet.{firstTasks, tasksOf}
+use Rattle.tasks.proofs.Computing.{computingTables}
 use Rattle.judge.proofs.Computing.{computingVerdicts}
 use Rattle.job.proofs.Computing.{computingJobs}
 use Rattle.cores.proofs.Computing.{computingCores}
@@ -16,13 +12,11 @@ use Rattle.machine.specs.Sound.{jobsSound, sound}
 use Rattle.machine.specs.Calls.{done, refuse, startAfter, start, release, finish, slotCoresInRange, slot, withJoined, joinAfter, join, step}
 use Rattle.machine.specs.Play.{play}
 use Rattle.machine.specs.InTime.{isSlot, acceptedSlot}
-use Rattle.tasks.specs.Written.{task, tableWith, tableOf}
 use Rattle.tasks.specs.Flags.{mask}
 
 unfoldable pub computing : Bool
 unfolding
-    inRange zeroTask emptyTable withTask firstOutOfRange coresInRange checked isDone firstTasks tasksOf
-    computingVerdicts computingJobs computingCores
+    computingTables computingVerdicts computingJobs computingCores
     zeroMachine taskAt jobAt withJob inTable
     openCount waiting precedes candidates withPicked pick runnerCount runners
     passed ranCount noReport slotReport afterSlot
@@ -30,5 +24,5 @@ unfolding
     jobsSound sound
     done refuse startAfter start release finish slotCoresInRange slot withJoined joinAfter join step play
     isSlot acceptedSlot
-    task tableWith tableOf mask
+    mask
 computing = true

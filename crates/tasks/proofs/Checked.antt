@@ -1,13 +1,13 @@
--- What it takes for a table and a number of cores to pass `checked`: `passes`, and the fields of `Passes`. The refusals of those that do not have
--- numbers of 1 or 2 digits, and none is number 0: `checked-numbered`.
+-- What it takes for a table and a number of cores to pass `checked`: `passes`, and the fields of `Passes`; and `passed`, that these are all. The refusals
+-- of those that do not have numbers of 1 or 2 digits, and none is number 0: `checked-numbered`.
 use Prim.Native.Nat.{ℕ, zero, suc, _+_, _≤_, _<_}
 use native.Mathlib.Omega.{arith}
-use mathlib.Core.Path.{_≡_}
+use mathlib.Core.Path.{_≡_, refl}
 use mathlib.Core.Bool.{Bool, true, cond, not}
 use mathlib.Core.List.{List}
 use lib.Dec.{eqb, leb, ltb}
 use lib.ListN.{getD}
-use borrow.Author.Tests.{not-false, leb-true, ltb-false, eqb-true}
+use borrow.Author.Tests.{not-false, leb-true, ltb-false, eqb-true, eqb-false, le-leb, le-ltb, ne-eqb}
 use Rattle.laws.proofs.CaseSplits.{by-order, by-cond}
 use Rattle.laws.proofs.Booleans.{and-left, and-right}
 use Rattle.tasks.specs.Limits.{maxTasks, maxCores}
@@ -22,6 +22,7 @@ use Rattle.tasks.specs.declared.outcome.Outcome.the-variants.{Done, Refu
 use Rattle.tasks.proofs.OutcomeLaws.{past-test, Numbered, done-numbered, refused-numbered}
 
 pub record Passes (t : Table) (m : ℕ) : Type 0 where
+  pub count-some : 1 ≤ t .count
   pub count-fits : t .count ≤ maxTasks
   pub tasks-fit : (i : ℕ) → i < t .count → inRange (getD (t .tasks) i zeroTask) ≡ true
   pub cores-some : 1 ≤ m
@@ -49,11 +50,30 @@ passes t m =
     past-test _ _ _ λ cores e.
     let fit = not-false _ cores in
     record {
+      count-some = let not-0 = eqb-false (t .count) 0 some in omega arith;
       count-fits = ltb-false _ _ few;
       tasks-fit = λ i h. none-out (t .tasks) (t .count) 0 (eqb-true _ _ (not-false _ none)) i (omega arith) (omega arith);
       cores-some = leb-true _ _ (and-left _ _ fit);
       cores-fit = leb-true _ _ (and-right (leb 1 m) _ fit);
     }
+
+-- and the other way round
+all-in : (tasks : List Task) (n i : ℕ) → ((j : ℕ) → i ≤ j → j < i + n → inRange (getD tasks j zeroTask) ≡ true) → firstOutOfRange tasks i n ≡ 0
+unfolding firstOutOfRange
+all-in tasks zero i each = refl
+all-in tasks (suc n) i each = rw (each i (omega arith) (omega arith)) (all-in tasks n (i + 1) (λ j l h. each j (omega arith) (omega arith)))
+
+pub passed : (t : Table) (m : ℕ) → Passes t m → checked t m ≡ Done
+unfolding checked coresInRange
+passed t m fit =
+    let in-table : (i : ℕ) → 0 ≤ i → i < 0 + t .count → inRange (getD (t .tasks) i zeroTask) ≡ true = λ i l h. fit .tasks-fit i (omega arith) in
+    rw (
+      le-ltb maxTasks (t .count) (fit .count-fits),
+      ne-eqb (t .count) 0 (omega (arith, fit .count-some)),
+      all-in (t .tasks) (t .count) 0 in-table,
+      le-leb 1 m (fit .cores-some),
+      le-leb m maxCores (fit .cores-fit),
+    )
 
 -- past a test that refuses by such a number
 other-test :

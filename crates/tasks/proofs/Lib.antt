@@ -5,3 +5,8 @@ pub mod TaskSetLaws
 pub mod OutcomeLaws
 pub mod Numbers
 pub mod MaskLaws
+pub mod CheaperChecked
+pub mod WrittenLaws
+pub mod ChosenLaws
+pub mod TrimmedCheaper
+pub mod Computing

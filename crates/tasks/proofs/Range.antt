@@ -1,9 +1,9 @@
--- What it says of a task's numbers that it is in range: `range-of`, and the fields of `Range`.
+-- What it says of a task's numbers that it is in range: `range-of`, and the fields of `Range`; and `in-range`, that these are all.
 use Prim.Native.Nat.{_≤_}
 use mathlib.Core.Path.{_≡_}
 use mathlib.Core.Bool.{true, _&&_}
 use lib.Dec.{leb}
-use borrow.Author.Tests.{leb-true}
+use borrow.Author.Tests.{leb-true, le-leb}
 use Rattle.laws.proofs.Booleans.{and-left, and-right}
 use Rattle.tasks.specs.Limits.{maxPeriod}
 use Rattle.tasks.specs.Task.{inRange}
@@ -30,3 +30,13 @@ range-of t h =
       deadline-fits = leb-true _ _ (and-right two _ h3);
       period-fits = leb-true _ _ (and-right three _ h);
     }
+
+pub in-range : (t : Task) → Range t → inRange t ≡ true
+unfolding inRange
+in-range t r =
+    rw (
+      le-leb 1 (t .budget) (r .budget-some),
+      le-leb (t .budget) (t .deadline) (r .budget-fits),
+      le-leb (t .deadline) (t .period) (r .deadline-fits),
+      le-leb (t .period) maxPeriod (r .period-fits),
+    )

@@ -6,5 +6,7 @@ pub mod Check
 pub mod Outcome
 pub mod TaskSet
 pub mod Written
+pub mod Cheaper
+pub mod Trimmed
 pub mod Numbers
 pub mod Flags
