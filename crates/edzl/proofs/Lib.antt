@@ -17,6 +17,7 @@ pub mod CheaperLaws
 pub mod SlackRounds
 pub mod Safe
 pub mod SlackSame
+pub mod SlackOfRound
 pub mod SlackStays
 pub mod SlackExamplesHold
 pub mod SumExamplesHold

@@ -1,6 +1,6 @@
 -- The rounds of the slack test, counted on past the last change. Others cite: `roundAfter` and `slackAfter`, the round of a number and its slacks, with
 -- `slack-start`, `sum-next` and `slack-next`; `LastRound` with `last-round`, that all rounds come to the round of their number, and `made-is`; `round-one`,
--- that the sums of round 1 are the window test's; and the theorems `slacks-fit`, `slacks-longer`, `few-urgent`, what an admitted set has, and
+-- that the sums of round 1 are the window test's; and the theorems `slacks-fit`, `slacks-cheaper`, `slacks-longer`, `few-urgent`, what an admitted set has, and
 -- `window-admits`. That the slacks grow is the theorem `slacks-grow`.
 use Prim.Native.Nat.{ℕ, zero, suc, _+_, _*_, _≤_, _<_}
 use mathlib.Core.Path.{_≡_, refl, ap, _∙_}

@@ -33,10 +33,10 @@ module _ (t : Table) (m : ℕ) (t' : Table) (m' : ℕ) (c : Cheaper t m t' m') w
         let task = c .tasks .each i h in
         in-range (getD (t' .tasks) i zeroTask)
         (record {
-          budget-some = c .budget-some i h;
+          budget-some = omega (arith, c .budget-some i h);
           budget-fits = omega (arith, task .same-deadline, task .budget-no-larger, was .budget-fits);
           deadline-fits = omega (arith, task .same-deadline, task .period-no-smaller, was .deadline-fits);
-          period-fits = c .period-fits i h;
+          period-fits = omega (arith, c .period-fits i h);
         })
 
     pub cheaper-checked : checked t' m' ≡ Done
@@ -44,9 +44,9 @@ module _ (t : Table) (m : ℕ) (t' : Table) (m' : ℕ) (c : Cheaper t m t' m') w
         let before = passes t m can-be-judged in
         passed t' m'
         (record {
-          count-some = c .one-remains;
+          count-some = omega (arith, c .one-remains);
           count-fits = omega (arith, fewer, before .count-fits);
           tasks-fit = task-in-range;
           cores-some = omega (arith, c .cores-no-fewer, before .cores-some);
-          cores-fit = c .cores-fit;
+          cores-fit = omega (arith, c .cores-fit);
         })

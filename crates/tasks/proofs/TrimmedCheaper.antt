@@ -78,11 +78,11 @@ module _ (t : Table) (m : ℕ) (can-be-judged : checked t m ≡ Done) where
                       period-no-smaller = each i h .period-no-smaller;
                     };
               };
-          budget-some = λ i h. each i h .budget-some;
-          period-fits = λ i h. each i h .period-fits;
-          one-remains = some;
+          budget-some = λ i h. omega (arith, each i h .budget-some);
+          period-fits = λ i h. omega (arith, each i h .period-fits);
+          one-remains = omega arith;
           cores-no-fewer = more;
-          cores-fit = few;
+          cores-fit = omega arith;
         }
 
   pub core-more : m + 1 ≤ maxCores → Cheaper t m t (m + 1)
