@@ -1,5 +1,5 @@
--- Cheaper tables stay admitted (document 02, change 8): the theorems `window-keeps`, `slack-keeps` and `admission-stays`. The case of each sentence follows from
--- the one of all cheaper tables in the same way for every test: `all-cases`.
+-- Cheaper tables stay admitted (document 02, change 8): the theorems `window-stays-admitted`, `slack-stays-admitted` and `admission-stays-admitted`, and beside them
+-- `window-keeps` and `slack-keeps`. The case of each sentence follows from the one of all cheaper tables in the same way for every test: `all-cases`.
 use Prim.Native.Nat.{ℕ, _≤_}
 use mathlib.Core.Path.{_≡_, sym, _∙_}
 use mathlib.Core.Bool.{Bool, true}
@@ -24,19 +24,20 @@ use Rattle.judge.proofs.Outcome.{judged-outcome, judged-is, admits-mean
 use Rattle.judge.proofs.SlackOutcome.{slack-outcome, slack-judged-is}
 use Rattle.judge.proofs.Admitted.{admission-means}
 
-module _ (admits : Table → ℕ → Bool) (can-be-judged : (t : Table) (m : ℕ) → admits t m ≡ true → checked t m ≡ Out.Done) where
-  all-cases : ((t t' : Table) (m m' : ℕ) → admits t m ≡ true → Cheaper t m t' m' → admits t' m' ≡ true) → StaysAdmitted admits
-  all-cases cheaper =
+module _ (admits : Table → ℕ → Bool) (judges : (t : Table) (m : ℕ) → admits t m ≡ true → checked t m ≡ Out.Done) where
+  all-cases : ((t : Table) (m : ℕ) → admits t m ≡ true → (t' : Table) (m' : ℕ) → Cheaper t m t' m' → admits t' m' ≡ true) → StaysAdmitted admits
+  unfolding StaysAdmitted
+  all-cases cheaper t m e =
       record {
-        cheaper = cheaper;
-        core-more = λ t m e few. cheaper t _ m _ e (core-more t m (can-be-judged t m e) few);
-        budget-lowered = λ t m e i budget h some lower. cheaper t _ m _ e (budget-lowered t m (can-be-judged t m e) i budget h some lower);
-        period-raised = λ t m e i period h higher few. cheaper t _ m _ e (period-raised t m (can-be-judged t m e) i period h higher few);
-        task-removed = λ t m e i h two. cheaper t _ m _ e (task-removed t m (can-be-judged t m e) i h two);
-        some-chosen = λ t m e flags some. cheaper t _ m _ e (some-chosen t m (can-be-judged t m e) flags some);
+        cheaper = cheaper t m e;
+        core-more = λ few. cheaper t m e _ _ (core-more t m (judges t m e) few);
+        budget-lowered = λ i budget h some lower. cheaper t m e _ _ (budget-lowered t m (judges t m e) i budget h some lower);
+        period-raised = λ i period h higher few. cheaper t m e _ _ (period-raised t m (judges t m e) i period h higher few);
+        task-removed = λ i h two. cheaper t m e _ _ (task-removed t m (judges t m e) i h two);
+        some-chosen = λ flags some. cheaper t m e _ _ (some-chosen t m (judges t m e) flags some);
       }
 
-module _ (t t' : Table) (m m' : ℕ) (c : Cheaper t m t' m') (judges : checked t m ≡ Out.Done) where
+module _ (t : Table) (m : ℕ) (t' : Table) (m' : ℕ) (c : Cheaper t m t' m') (judges : checked t m ≡ Out.Done) where
   well : WellFormed (tasksOf t)
   well = well-checked t m judges
 
@@ -57,31 +58,38 @@ module _ (t t' : Table) (m m' : ℕ) (c : Cheaper t m t' m') (judges : checked t
   unfolding slackJudgedAfter
   slack-admits e = rw (slack-judged-is t' m' judges-too) (slack-stays (tasksOf t) (tasksOf t') well (c .tasks) m m' (c .cores-no-fewer) e)
 
+pub window-stays-admitted : StaysAdmitted (λ t m. judged t m .admits)
+window-stays-admitted =
+    all-cases (λ t m. judged t m .admits) (λ t m e. admits-means t m e .checks)
+    (λ t m e t' m' c. let means = admits-means t m e in window-admits t m t' m' c (means .checks) (means .admits))
+
+pub admission-stays-admitted : StaysAdmitted (λ t m. admission t m .admits)
+unfolding admission
+admission-stays-admitted =
+    all-cases (λ t m. admission t m .admits) (λ t m e. admission-means t m e .checks)
+    (λ t m e t' m' c. let means = admission-means t m e in slack-admits t m t' m' c (means .checks) (means .admits))
+
+-- the same: an admission is the slack verdict's
+pub slack-stays-admitted : StaysAdmitted (λ t m. slackJudged t m .admits)
+unfolding admission
+slack-stays-admitted = admission-stays-admitted
+
 pub window-keeps : WindowKeeps
-window-keeps =
+unfolding WindowKeeps
+window-keeps t m t' m' e c =
+    let judges = sym (judged-outcome t m) ∙ e in
     record {
-      stays-admitted =
-          all-cases (λ t m. judged t m .admits) (λ t m e. admits-means t m e .checks)
-          (λ t t' m m' e c. let means = admits-means t m e in window-admits t t' m m' c (means .checks) (means .admits));
-      stays-judged = λ t t' m m' e c. judged-outcome t' m' ∙ judges-too t t' m m' c (sym (judged-outcome t m) ∙ e);
-      count-no-larger = λ t t' m m' e c. window-count t t' m m' c (sym (judged-outcome t m) ∙ e);
+      is-judged = judged-outcome t' m' ∙ judges-too t m t' m' c judges;
+      count-no-larger = window-count t m t' m' c judges;
     }
 
--- that joins and the C entry go by the slack test's admission makes no difference
-pub admission-stays : StaysAdmitted (λ t m. admission t m .admits)
-unfolding admission
-admission-stays =
-    all-cases (λ t m. admission t m .admits) (λ t m e. admission-means t m e .checks)
-    (λ t t' m m' e c. let means = admission-means t m e in slack-admits t t' m m' c (means .checks) (means .admits))
-
 pub slack-keeps : SlackKeeps
-unfolding admission tasksOf firstTasks
-slack-keeps =
+unfolding SlackKeeps tasksOf firstTasks
+slack-keeps t m t' m' e c =
+    let judges = sym (slack-outcome t m) ∙ e in
+    let of-tasks = well t m t' m' c judges in
     record {
-      stays-admitted = admission-stays;
-      stays-judged = λ t t' m m' e c. slack-outcome t' m' ∙ judges-too t t' m m' c (sym (slack-outcome t m) ∙ e);
-      slack-no-smaller = λ t t' m m' e c.
-          slack-no-smaller (tasksOf t) (tasksOf t') (well t t' m m' c (sym (slack-outcome t m) ∙ e)) (c .tasks) m m' (c .cores-no-fewer);
-      reaching-no-larger = λ t t' m m' e c.
-          reaching-no-larger (tasksOf t) (tasksOf t') (well t t' m m' c (sym (slack-outcome t m) ∙ e)) (c .tasks) m m' (c .cores-no-fewer);
+      is-judged = slack-outcome t' m' ∙ judges-too t m t' m' c judges;
+      slack-no-smaller = slack-no-smaller (tasksOf t) (tasksOf t') of-tasks (c .tasks) m m' (c .cores-no-fewer);
+      reaching-no-larger = reaching-no-larger (tasksOf t) (tasksOf t') of-tasks (c .tasks) m m' (c .cores-no-fewer);
     }
