@@ -33,15 +33,15 @@ cheaper-promise t m by-either t' m' cheaper =
     promise t' m' (admission-stays-admitted t m admits .cheaper t' m' cheaper)
 
 -- document 002's four tasks, to be on 2 cores
-unfoldable pub signed : Table
-signed = tableOf fourTasks
+unfoldable pub original : Table
+original = tableOf fourTasks
 
 -- the same without the first task, with the third's period raised and the fourth's budget lowered, to be on 3 cores
 unfoldable pub trimmed : Table
 trimmed = tableOf (task 2 1 2 ∷ task 9 1 7 ∷ task 8 2 8 ∷ [])
 
-each-cheaper : (i : ℕ) → i < 3 → CheaperTask (tasksOf signed) (suc i) (tasksOf trimmed) i
-unfolding computing fourTasks signed trimmed
+each-cheaper : (i : ℕ) → i < 3 → CheaperTask (tasksOf original) (suc i) (tasksOf trimmed) i
+unfolding computing fourTasks original trimmed
 each-cheaper zero h = record { same-deadline = refl; budget-no-larger = omega arith; period-no-smaller = omega arith }
 each-cheaper (suc zero) h = record { same-deadline = refl; budget-no-larger = omega arith; period-no-smaller = omega arith }
 each-cheaper (suc (suc zero)) h = record { same-deadline = refl; budget-no-larger = omega arith; period-no-smaller = omega arith }
@@ -54,8 +54,8 @@ each-in-range (suc zero) h = (omega arith, omega arith)
 each-in-range (suc (suc zero)) h = (omega arith, omega arith)
 each-in-range (suc (suc (suc i))) h = absurd (omega arith)
 
-pub trimmed-cheaper : Cheaper signed 2 trimmed 3
-unfolding computing fourTasks signed trimmed
+pub trimmed-cheaper : Cheaper original 2 trimmed 3
+unfolding computing fourTasks original trimmed
 trimmed-cheaper =
     record {
       tasks = record { was = suc; was-there = λ i h. omega arith; in-order = λ i j l h. omega arith; each = each-cheaper };
@@ -66,15 +66,15 @@ trimmed-cheaper =
       cores-fit = omega arith;
     }
 
--- only the slack test admits the table that was signed
-pub window-refuses : judged signed 2 .admits ≡ false
-unfolding computing fourTasks signed
+-- only the slack test admits the original
+pub window-refuses : judged original 2 .admits ≡ false
+unfolding computing fourTasks original
 window-refuses = refl
 
-slack-admits : admission signed 2 .admits ≡ true
-unfolding computing fourTasks signed
+slack-admits : admission original 2 .admits ≡ true
+unfolding computing fourTasks original
 slack-admits = refl
 
 pub trimmed-in-time : (calls : List Call) → InTime trimmed (play (start trimmed 3 .machine) calls)
 unfolding CheaperPromise
-trimmed-in-time = cheaper-promise signed 2 (inr slack-admits) trimmed 3 trimmed-cheaper
+trimmed-in-time = cheaper-promise original 2 (inr slack-admits) trimmed 3 trimmed-cheaper

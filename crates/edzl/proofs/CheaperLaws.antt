@@ -27,7 +27,7 @@ shorter-cheaper shorter longer fewer same =
     record {
       was = λ i. i;
       was-there = λ i h. omega arith;
-      in-order = λ i j l h. l;
+      in-order = λ i j l h. omega arith;
       each = λ i h.
           let task = same i h in
           record {

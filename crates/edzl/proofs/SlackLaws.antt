@@ -30,15 +30,6 @@ module _ (m A sum : ℕ) where
   pub new-fits : newSlack m A sum ≤ A
   new-fits = by-order (m * A) sum (λ h. rw (new-none h) (omega arith)) (λ h. rw (new-some h) (omega arith))
 
-  -- It is 0 only where the sum reaches.
-  pub none-reaches : newSlack m A sum ≡ 0 → m * A ≤ sum
-  none-reaches none =
-      by-order (m * A) sum
-      (λ h. h)
-      (λ h.
-      let all-used : A ≤ sum / m = omega (arith, new-some h) in
-      absurd (omega (arith, le-div-iff-mul-le (some-cores h) .0 all-used, mul-comm m A)))
-
 -- It is no larger where the sum is no smaller.
 pub new-antitone : (m A sum sum' : ℕ) → sum ≤ sum' → newSlack m A sum' ≤ newSlack m A sum
 new-antitone m A sum sum' l =
@@ -47,6 +38,26 @@ new-antitone m A sum sum' l =
     (λ h.
     let quotients : sum / m ≤ sum' / m = le-div-iff-mul-le (some-cores m A sum' h) .1 (omega (arith, div-mul-le-self sum m)) in
     rw (new-some m A sum' h, new-some m A sum (omega arith)) (omega arith))
+
+-- A job that is in time and has lost at most what the sum gives for each core is ahead by the new slack.
+pub new-ahead : (m A sum budget left : ℕ) → budget ≤ left → m * ((A + budget) - left) ≤ sum → budget + newSlack m A sum ≤ left
+new-ahead m A sum budget left in-time paid =
+    by-order (m * A) sum
+    (λ h. rw (new-none m A sum h) (omega arith))
+    (λ h.
+    let lost : (A + budget) - left ≤ sum / m =
+    le-div-iff-mul-le (some-cores m A sum h) .1 (omega (arith, mul-comm m ((A + budget) - left)))
+    in
+    rw (new-some m A sum h) (omega arith))
+
+-- It is 0 only where the sum reaches.
+pub none-reaches : (m A sum : ℕ) → newSlack m A sum ≡ 0 → m * A ≤ sum
+none-reaches m A sum none =
+    by-order (m * A) sum
+    (λ h. h)
+    (λ h.
+    let all-used : A ≤ sum / m = omega (arith, new-some m A sum h) in
+    absurd (omega (arith, le-div-iff-mul-le (some-cores m A sum h) .0 all-used, mul-comm m A)))
 
 -- It is no smaller on more cores.
 pub new-more-cores : (m m' A sum : ℕ) → m ≤ m' → newSlack m A sum ≤ newSlack m' A sum
@@ -59,17 +70,6 @@ new-more-cores m m' A sum more =
     le-div-iff-mul-le (some-cores m A sum h) .1 (omega (arith, mul-le-mul-left (sum / m') more, div-mul-le-self sum m'))
     in
     rw (new-some m A sum h, new-some m' A sum below) (omega arith))
-
--- A job that is in time and has lost at most what the sum gives for each core is ahead by the new slack.
-pub new-ahead : (m A sum budget left : ℕ) → budget ≤ left → m * ((A + budget) - left) ≤ sum → budget + newSlack m A sum ≤ left
-new-ahead m A sum budget left in-time paid =
-    by-order (m * A) sum
-    (λ h. rw (new-none m A sum h) (omega arith))
-    (λ h.
-    let lost : (A + budget) - left ≤ sum / m =
-    le-div-iff-mul-le (some-cores m A sum h) .1 (omega (arith, mul-comm m ((A + budget) - left)))
-    in
-    rw (new-some m A sum h) (omega arith))
 
 -- It is what the sum lacks, divided by m and rounded up.
 pub new-rounded : (m A sum : ℕ) → 1 ≤ m → newSlack m A sum ≡ (m * A - sum + m - 1) / m
