@@ -1,9 +1,12 @@
 //! An independent check of the table reader, the window test, the slack test and the
 //! slot machine, compared with the C entry and the programs. It was written from
-//! document 01, changes 1 to 7 of document 02, the handbook's formats and what
+//! document 01, changes 1 to 8 of document 02, the handbook's formats and what
 //! docs/DECISIONS.md settles of these, and from no definition or code of crates/.
 
+pub mod answers;
 pub mod assignment;
+pub mod boundary_lines;
+pub mod cheaper;
 pub mod cores;
 pub mod document_000;
 pub mod edges;
