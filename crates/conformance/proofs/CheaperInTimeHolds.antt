@@ -2,9 +2,9 @@
 -- all four ways at once than one that only the slack test admits.
 use Prim.Native.Nat.{ℕ, zero, suc, _≤_, _<_}
 use native.Mathlib.Omega.{arith}
-use mathlib.Core.Path.{_≡_, refl}
+use mathlib.Core.Path.{_≡_, refl, _∙_}
 use mathlib.Core.Bool.{true, false}
-use mathlib.Core.List.{List, [], _∷_}
+use mathlib.Core.List.{[], _∷_}
 use mathlib.Core.Logic.{⊎-elim, inr}
 use Rattle.edzl.specs.Cheaper.{CheaperTask}
 use Rattle.tasks.specs.declared.table.Table.{Table}
@@ -16,21 +16,20 @@ use Rattle.judge.specs.Judge.{judged}
 use Rattle.judge.specs.SlackJudge.{admission}
 use Rattle.judge.specs.StaysAdmitted.{StaysAdmitted}
 use Rattle.judge.specs.SlackExamples.{fourTasks}
-use Rattle.judge.proofs.Admitted.{window-admitted}
-use Rattle.judge.proofs.StaysAdmitted.{admission-stays-admitted}
-use Rattle.machine.specs.Calls.{start}
-use Rattle.machine.specs.Play.{play}
-use Rattle.machine.specs.InTime.{InTime, Promise}
-use Rattle.machine.specs.declared.call.Call.{Call}
+use Rattle.judge.proofs.Admitted.{admission-means, window-admitted}
+use Rattle.judge.proofs.StaysAdmitted.{each-stays-admitted}
+use Rattle.machine.specs.InTime.{Promise}
+use Rattle.machine.proofs.SoundKept.{start-outcome}
 use Rattle.machine.proofs.InTimeHolds.{promise}
 use Rattle.machine.proofs.Computing.{computing}
-use Rattle.conformance.specs.CheaperInTime.{CheaperPromise}
+use Rattle.conformance.specs.CheaperInTime.{StartsInTime, CheaperPromise}
 
 pub cheaper-promise : (t : Table) (m : ℕ) → CheaperPromise t m
 unfolding CheaperPromise Promise StaysAdmitted
 cheaper-promise t m by-either t' m' cheaper =
     let admits : admission t m .admits ≡ true = ⊎-elim (window-admitted t m) (λ by-slack. by-slack) by-either in
-    promise t' m' (admission-stays-admitted t m admits .cheaper t' m' cheaper)
+    let admits' = each-stays-admitted .by-admission t m admits .cheaper t' m' cheaper in
+    record { starts = start-outcome t' m' ∙ admission-means t' m' admits' .checks; in-time = promise t' m' admits' }
 
 -- document 002's four tasks, to be on 2 cores
 unfoldable pub original : Table
@@ -75,6 +74,6 @@ slack-admits : admission original 2 .admits ≡ true
 unfolding computing fourTasks original
 slack-admits = refl
 
-pub trimmed-in-time : (calls : List Call) → InTime trimmed (play (start trimmed 3 .machine) calls)
+pub trimmed-in-time : StartsInTime trimmed 3
 unfolding CheaperPromise
 trimmed-in-time = cheaper-promise original 2 (inr slack-admits) trimmed 3 trimmed-cheaper

@@ -5,6 +5,7 @@ use mathlib.Core.Bool.{true}
 use mathlib.Core.List.{List}
 use mathlib.Core.Logic.{_⊎_}
 use Rattle.tasks.specs.declared.table.Table.{Table}
+use Rattle.tasks.specs.declared.outcome.Outcome.the-variants.{Done}
 use Rattle.tasks.specs.Cheaper.{Cheaper}
 use Rattle.judge.specs.Judge.{judged}
 use Rattle.judge.specs.SlackJudge.{admission}
@@ -13,10 +14,13 @@ use Rattle.machine.specs.Play.{play}
 use Rattle.machine.specs.InTime.{InTime}
 use Rattle.machine.specs.declared.call.Call.{Call}
 
--- if the window test or the slack test admits the table t on m cores, the claim of demand 3 holds of every table t' that is cheaper, on its m' cores: of the log
--- of every list of calls from the fresh machine on t'. That t' is admitted is not asked.
+-- a table starts on so many cores, and the claim of demand 3 holds of the log of every list of calls from the fresh machine
+pub record StartsInTime (t : Table) (m : ℕ) : Type 0 where
+  pub starts : start t m .outcome ≡ Done
+  pub in-time : (calls : List Call) → InTime t (play (start t m .machine) calls)
+
+-- if the window test or the slack test admits the table t on m cores, this is so of every table t' that is cheaper, on its m' cores. That t' is admitted is not
+-- asked.
 unfoldable pub CheaperPromise : Table → (m : ℕ) → Type 0
 CheaperPromise t m =
-    (judged t m .admits ≡ true) ⊎ (admission t m .admits ≡ true)
-    → (t' : Table) (m' : ℕ) → Cheaper t m t' m'
-    → (calls : List Call) → InTime t' (play (start t' m' .machine) calls)
+    ((judged t m .admits ≡ true) ⊎ (admission t m .admits ≡ true)) → (t' : Table) (m' : ℕ) → Cheaper t m t' m' → StartsInTime t' m'

@@ -65,7 +65,7 @@ roundsFrom tasks m (suc more) false rounds =
 unfoldable pub allRounds : TaskSet → (m : ℕ) → Rounds
 allRounds tasks m = roundsFrom tasks m 64 false (noRound tasks)
 
--- The slack of each task after r rounds, or after the last where fewer are made.
+-- The slack of each task after r rounds, or after fewer where no slack changes in the last of them. With r = 64 these are the test's (`allRounds`).
 unfoldable pub slackOfRound : TaskSet → (m r : ℕ) → ℕ → ℕ
 slackOfRound tasks m r = ofTask (roundsFrom tasks m r false (noRound tasks) .slacks)
 

@@ -1,5 +1,4 @@
--- Cheaper tables stay admitted (document 02, change 8): the theorems `window-stays-admitted`, `slack-stays-admitted` and `admission-stays-admitted`, and beside them
--- `window-keeps` and `slack-keeps`. The case of each sentence follows from the one of all cheaper tables in the same way for every test: `all-cases`.
+-- Cheaper tables stay admitted (document 02, change 8): the theorem `each-stays-admitted`, and beside it `window-keeps` and `slack-keeps`.
 use Prim.Native.Nat.{ℕ, _≤_}
 use mathlib.Core.Path.{_≡_, sym, _∙_}
 use mathlib.Core.Bool.{Bool, true}
@@ -16,26 +15,13 @@ use Rattle.tasks.specs.Cheaper.{Cheaper}
 use Rattle.tasks.specs.TaskSet.{firstTasks, tasksOf}
 use Rattle.tasks.proofs.TaskSetLaws.{well-checked}
 use Rattle.tasks.proofs.CheaperChecked.{cheaper-checked}
-use Rattle.tasks.proofs.TrimmedCheaper.{core-more, budget-lowered, period-raised, task-removed, some-chosen}
+use Rattle.tasks.proofs.TrimmedCheaper.{after-trims}
 use Rattle.judge.specs.Judge.{judgedAfter, judged}
 use Rattle.judge.specs.SlackJudge.{slackJudgedAfter, slackJudged, admission}
-use Rattle.judge.specs.StaysAdmitted.{StaysAdmitted, WindowKeeps, SlackKeeps}
+use Rattle.judge.specs.StaysAdmitted.{StaysAdmitted, EachStaysAdmitted, WindowKeeps, SlackKeeps}
 use Rattle.judge.proofs.Outcome.{judged-outcome, judged-is, admits-means}
 use Rattle.judge.proofs.SlackOutcome.{slack-outcome, slack-judged-is}
 use Rattle.judge.proofs.Admitted.{admission-means}
-
-module _ (admits : Table → ℕ → Bool) (judges : (t : Table) (m : ℕ) → admits t m ≡ true → checked t m ≡ Out.Done) where
-  all-cases : ((t : Table) (m : ℕ) → admits t m ≡ true → (t' : Table) (m' : ℕ) → Cheaper t m t' m' → admits t' m' ≡ true) → StaysAdmitted admits
-  unfolding StaysAdmitted
-  all-cases cheaper t m e =
-      record {
-        cheaper = cheaper t m e;
-        core-more = λ few. cheaper t m e _ _ (core-more t m (judges t m e) few);
-        budget-lowered = λ i budget h some lower. cheaper t m e _ _ (budget-lowered t m (judges t m e) i budget h some lower);
-        period-raised = λ i period h higher few. cheaper t m e _ _ (period-raised t m (judges t m e) i period h higher few);
-        task-removed = λ i h two. cheaper t m e _ _ (task-removed t m (judges t m e) i h two);
-        some-chosen = λ flags some. cheaper t m e _ _ (some-chosen t m (judges t m e) flags some);
-      }
 
 module _ (t : Table) (m : ℕ) (t' : Table) (m' : ℕ) (c : Cheaper t m t' m') (judges : checked t m ≡ Out.Done) where
   well : WellFormed (tasksOf t)
@@ -58,21 +44,28 @@ module _ (t : Table) (m : ℕ) (t' : Table) (m' : ℕ) (c : Cheaper t m t' m') (
   unfolding slackJudgedAfter
   slack-admits e = rw (slack-judged-is t' m' judges-too) (slack-stays (tasksOf t) (tasksOf t') well (c .tasks) m m' (c .cores-no-fewer) e)
 
-pub window-stays-admitted : StaysAdmitted (λ t m. judged t m .admits)
+module _ (admits : Table → ℕ → Bool) (judges : (t : Table) (m : ℕ) → admits t m ≡ true → checked t m ≡ Out.Done) where
+  -- after each sentence a table is cheaper, whichever the test
+  with-trims : ((t : Table) (m : ℕ) → admits t m ≡ true → (t' : Table) (m' : ℕ) → Cheaper t m t' m' → admits t' m' ≡ true) → StaysAdmitted admits
+  unfolding StaysAdmitted
+  with-trims cheaper t m e =
+      record { cheaper = cheaper t m e; trimmed = after-trims (λ t' m'. admits t' m' ≡ true) t m (judges t m e) (cheaper t m e) }
+
+window-stays-admitted : StaysAdmitted (λ t m. judged t m .admits)
 window-stays-admitted =
-    all-cases (λ t m. judged t m .admits) (λ t m e. admits-means t m e .checks)
+    with-trims (λ t m. judged t m .admits) (λ t m e. admits-means t m e .checks)
     (λ t m e t' m' c. let means = admits-means t m e in window-admits t m t' m' c (means .checks) (means .admits))
 
-pub admission-stays-admitted : StaysAdmitted (λ t m. admission t m .admits)
+admission-stays-admitted : StaysAdmitted (λ t m. admission t m .admits)
 unfolding admission
 admission-stays-admitted =
-    all-cases (λ t m. admission t m .admits) (λ t m e. admission-means t m e .checks)
+    with-trims (λ t m. admission t m .admits) (λ t m e. admission-means t m e .checks)
     (λ t m e t' m' c. let means = admission-means t m e in slack-admits t m t' m' c (means .checks) (means .admits))
 
--- the same: an admission is the slack verdict's
-pub slack-stays-admitted : StaysAdmitted (λ t m. slackJudged t m .admits)
+pub each-stays-admitted : EachStaysAdmitted
 unfolding admission
-slack-stays-admitted = admission-stays-admitted
+each-stays-admitted =
+    record { by-window = window-stays-admitted; by-slack = admission-stays-admitted; by-admission = admission-stays-admitted }
 
 pub window-keeps : WindowKeeps
 unfolding WindowKeeps

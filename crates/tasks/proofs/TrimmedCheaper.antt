@@ -1,5 +1,5 @@
--- What document 02's change 8 does to a table that can be judged makes it cheaper: `core-more`, `budget-lowered`, `period-raised`, `task-removed`, and
--- `some-chosen`, any choice of its tasks that is not empty.
+-- What document 02's change 8 does to a table that can be judged makes it cheaper: the theorem `trims-cheaper`. By `after-trims` whatever holds of all cheaper tables
+-- holds after each sentence of it.
 use Prim.Native.Nat.{ℕ, suc, _+_, _-_, _≤_, _<_}
 use native.Mathlib.Nat.{le-refl}
 use native.Mathlib.Omega.{arith}
@@ -16,7 +16,7 @@ use Rattle.tasks.specs.TaskSet.{firstTasks, tasksOf}
 use Rattle.tasks.specs.Check.{checked}
 use Rattle.tasks.specs.Written.{task, tableOf}
 use Rattle.tasks.specs.Cheaper.{Cheaper}
-use Rattle.tasks.specs.Trimmed.{withBudget, withPeriod, listOf, withoutTask, chosen, chosenTable}
+use Rattle.tasks.specs.Trimmed.{withBudget, withPeriod, listOf, withoutTask, chosen, chosenTable, AfterTrims, TrimsCheaper}
 use Rattle.tasks.specs.declared.task.Task.{Task}
 use Rattle.tasks.specs.declared.table.Table.{Table}
 use Rattle.tasks.specs.declared.outcome.Outcome.the-variants.{Done}
@@ -85,7 +85,7 @@ module _ (t : Table) (m : ℕ) (can-be-judged : checked t m ≡ Done) where
           cores-fit = omega arith;
         }
 
-  pub core-more : m + 1 ≤ maxCores → Cheaper t m t (m + 1)
+  core-more : m + 1 ≤ maxCores → Cheaper t m t (m + 1)
   core-more few = cheaper-by t (λ i. i) (λ i h. h) (m + 1) (λ i j l h. l) unchanged (fits .count-some) (omega arith) few
 
   -- an entry of the table is in its list, since no task of zeros is in range
@@ -112,7 +112,7 @@ module _ (t : Table) (m : ℕ) (can-be-judged : checked t m ≡ Done) where
     one-changed : Cheaper t m changed m
     one-changed = cheaper-by changed (λ j. j) (λ j h. h) m (λ j k l h. l) changed-task (omega arith) (le-refl m) (fits .cores-fit)
 
-  pub budget-lowered : (i budget : ℕ) → i < t .count → 1 ≤ budget → budget ≤ tasksOf t .budget i → Cheaper t m (withBudget t i budget) m
+  budget-lowered : (i budget : ℕ) → i < t .count → 1 ≤ budget → budget ≤ tasksOf t .budget i → Cheaper t m (withBudget t i budget) m
   unfolding tasksOf firstTasks withBudget task
   budget-lowered i budget h some lower =
       one-changed i h _
@@ -124,7 +124,7 @@ module _ (t : Table) (m : ℕ) (can-be-judged : checked t m ≡ Done) where
         period-fits = range i h .period-fits;
       })
 
-  pub period-raised : (i period : ℕ) → i < t .count → tasksOf t .period i ≤ period → period ≤ maxPeriod → Cheaper t m (withPeriod t i period) m
+  period-raised : (i period : ℕ) → i < t .count → tasksOf t .period i ≤ period → period ≤ maxPeriod → Cheaper t m (withPeriod t i period) m
   unfolding tasksOf firstTasks withPeriod task
   period-raised i period h higher few =
       one-changed i h _
@@ -156,7 +156,7 @@ module _ (t : Table) (m : ℕ) (can-be-judged : checked t m ≡ Done) where
         ∙ picked-task flags (listOf t) i h
         ∙ getD-take (t .count) (t .tasks) (picked flags i) zeroTask (omega (arith, picked-there flags (listOf t) i h, listed-few))
 
-    pub some-chosen : Cheaper t m (chosenTable t flags) m
+    some-chosen : Cheaper t m (chosenTable t flags) m
     some-chosen =
         cheaper-by (chosenTable t flags) (picked flags)
         there
@@ -186,6 +186,32 @@ module _ (t : Table) (m : ℕ) (can-be-judged : checked t m ≡ Done) where
   others-remain i h two =
       rw (count-of (take i (listOf t) ++ drop (suc i) (listOf t)), length-append, length-take, length-drop) (omega (arith, listed-all))
 
-  pub task-removed : (i : ℕ) → i < t .count → 2 ≤ t .count → Cheaper t m (withoutTask t i) m
+  task-removed : (i : ℕ) → i < t .count → 2 ≤ t .count → Cheaper t m (withoutTask t i) m
   task-removed i h two =
       rw (removed-chosen i) (some-chosen (allBut i (t .count)) (rw (← removed-chosen i) (others-remain i h two)))
+
+pub trims-cheaper : TrimsCheaper
+unfolding TrimsCheaper
+trims-cheaper t m can-be-judged =
+    record {
+      core-more = core-more t m can-be-judged;
+      budget-lowered = budget-lowered t m can-be-judged;
+      period-raised = period-raised t m can-be-judged;
+      task-removed = task-removed t m can-be-judged;
+      some-chosen = some-chosen t m can-be-judged;
+    }
+
+pub after-trims : (holds : Table → ℕ → Type 0) (t : Table) (m : ℕ) →
+    checked t m ≡ Done →
+    ((t' : Table) (m' : ℕ) → Cheaper t m t' m' → holds t' m') →
+    AfterTrims holds t m
+unfolding TrimsCheaper
+after-trims holds t m can-be-judged of-cheaper =
+    let trims = trims-cheaper t m can-be-judged in
+    record {
+      core-more = λ few. of-cheaper _ _ (trims .core-more few);
+      budget-lowered = λ i budget h some lower. of-cheaper _ _ (trims .budget-lowered i budget h some lower);
+      period-raised = λ i period h higher few. of-cheaper _ _ (trims .period-raised i period h higher few);
+      task-removed = λ i h two. of-cheaper _ _ (trims .task-removed i h two);
+      some-chosen = λ flags some. of-cheaper _ _ (trims .some-chosen flags some);
+    }

@@ -1,4 +1,4 @@
--- Tasks and tables written out, for worked examples and for the cases that the session program plays.
+-- Tasks and tables written out, for worked examples, for the cases that the session program plays, and for the tables that some tasks of another make.
 use Prim.Native.Nat.{ℕ}
 use mathlib.Core.List.{List, [], _∷_}
 use Rattle.tasks.specs.declared.task.Task.{Task}
