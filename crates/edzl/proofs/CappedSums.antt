@@ -1,10 +1,10 @@
 -- Sums over the others of parts that count up to a cap, as the sum of a task counts them up to its spare. Others cite `capped`, such a sum, and `cap-raised`: with a
 -- larger cap the sum gives a slack that is no smaller. It goes by steps of 1, and each of them by `few-above`: below m times the cap there are fewer than m
 -- parts above it, so a sum with a cap of 1 more is less than m larger.
-use Prim.Native.Nat.{ℕ, suc, _+_, _*_, _-_, _/_, _%_, _≤_, _<_, min}
+use Prim.Native.Nat.{ℕ, suc, _+_, _*_, _/_, _%_, _≤_, _<_, min}
 use mathlib.Core.Path.{_≡_, sym}
 use lib.Dec.{ltb}
-use native.Mathlib.Nat.{le-refl, mul-le-mul-right, div-add-mod', div-lt-iff-lt-mul, mod-lt}
+use native.Mathlib.Nat.{mul-le-mul-right, div-add-mod', div-lt-iff-lt-mul, mod-lt}
 use native.Mathlib.Omega.{arith}
 use borrow.Author.Tests.{ltb-true, ltb-false}
 use Rattle.laws.specs.Sums.{sumTo, bit, others}

@@ -11,7 +11,7 @@ use Rattle.laws.proofs.SumLaws.{sum-picked, others-picked, bit-monotone}
 use Rattle.edzl.specs.TaskSet.{TaskSet}
 use Rattle.edzl.specs.Window.{interference, spare, noSlack, windowSum, mayTurnUrgent, countUrgent, admitted}
 use Rattle.edzl.specs.Slack.{newSlack}
-use Rattle.edzl.specs.Cheaper.{CheaperTask, CheaperTasks}
+use Rattle.edzl.specs.Cheaper.{CheaperTasks}
 use Rattle.edzl.proofs.WellFormed.{WellFormed}
 use Rattle.edzl.proofs.InterferenceLaws.{monotone, budget-monotone, period-antitone}
 use Rattle.edzl.proofs.WindowLaws.{SameTask, admitted-few}

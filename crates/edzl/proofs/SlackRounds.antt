@@ -2,10 +2,10 @@
 -- `slack-start`, `sum-next` and `slack-next`; `LastRound` with `last-round`, that all rounds come to the round of their number, and `made-is`; `round-one`,
 -- that the sums of round 1 are the window test's; and the theorems `slacks-fit`, `slacks-cheaper`, `slacks-longer`, `few-urgent`, what an admitted set has, and
 -- `window-admits`. That the slacks grow is the theorem `slacks-grow`.
-use Prim.Native.Nat.{ℕ, zero, suc, _+_, _*_, _≤_, _<_}
+use Prim.Native.Nat.{ℕ, zero, suc, _+_, _≤_, _<_}
 use mathlib.Core.Path.{_≡_, refl, ap, _∙_}
 use mathlib.Core.Bool.{Bool, true, false}
-use native.Mathlib.Nat.{le-refl, le-trans}
+use native.Mathlib.Nat.{le-refl}
 use native.Mathlib.Omega.{arith}
 use lib.ListN.{length-replicate}
 use borrow.Author.Tests.{le-leb, leb-true}

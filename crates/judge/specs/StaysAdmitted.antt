@@ -12,7 +12,7 @@ use Rattle.tasks.specs.Trimmed.{AfterTrims}
 use Rattle.judge.specs.Judge.{judged}
 use Rattle.judge.specs.SlackJudge.{slackJudged, admission}
 
--- what a test, of which `admits t m` tells whether it admits the table t on m cores, admits beside a table t on m cores
+-- what else a test has to admit that admits the table t on m cores; whether it admits one is `admits t m`
 pub record AdmitsCheaper (admits : Table → (m : ℕ) → Bool) (t : Table) (m : ℕ) : Type 0 where
   -- every table that is cheaper
   pub cheaper : (t' : Table) (m' : ℕ) → Cheaper t m t' m' → admits t' m' ≡ true

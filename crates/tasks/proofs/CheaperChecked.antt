@@ -10,7 +10,6 @@ use Rattle.tasks.specs.Table.{zeroTask}
 use Rattle.tasks.specs.TaskSet.{firstTasks, tasksOf}
 use Rattle.tasks.specs.Check.{checked}
 use Rattle.tasks.specs.Cheaper.{Cheaper}
-use Rattle.tasks.specs.declared.task.Task.{Task}
 use Rattle.tasks.specs.declared.table.Table.{Table}
 use Rattle.tasks.specs.declared.outcome.Outcome.the-variants.{Done}
 use Rattle.tasks.proofs.Checked.{passes, passed}

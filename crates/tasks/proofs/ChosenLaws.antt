@@ -1,7 +1,6 @@
 -- Some tasks of a list, chosen by flags. Others cite: `picked`, where in the list each chosen task stands, with `picked-there`, `picked-rises` and `picked-task`;
 -- `chosen-few`, that there are no more than in the list; and `but-one`, that a list without one entry is such a choice.
 use Prim.Native.Nat.{ℕ, zero, suc, _+_, _≤_, _<_}
-use native.Mathlib.Nat.{le-refl}
 use native.Mathlib.Omega.{arith}
 use mathlib.Core.Path.{_≡_, refl, ap}
 use mathlib.Core.Bool.{Bool, true, false}

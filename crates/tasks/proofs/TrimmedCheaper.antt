@@ -3,18 +3,17 @@
 use Prim.Native.Nat.{ℕ, suc, _+_, _-_, _≤_, _<_}
 use native.Mathlib.Nat.{le-refl}
 use native.Mathlib.Omega.{arith}
-use mathlib.Core.Path.{_≡_, refl, sym, subst, _∙_}
-use mathlib.Core.Bool.{Bool, true}
+use mathlib.Core.Path.{_≡_, refl, _∙_}
+use mathlib.Core.Bool.{Bool}
 use mathlib.Core.List.{List, _++_}
 use lib.ListN.{getD, set, length, take, drop, length-append, length-take, length-drop, List·getD-eq-default}
 use lib.Seq.{getD-set-same, getD-set-other, getD-take}
 use Rattle.laws.proofs.CaseSplits.{by-order, by-equal}
 use Rattle.tasks.specs.Limits.{maxPeriod, maxCores}
 use Rattle.tasks.specs.Table.{zeroTask}
-use Rattle.tasks.specs.Task.{inRange}
 use Rattle.tasks.specs.TaskSet.{firstTasks, tasksOf}
 use Rattle.tasks.specs.Check.{checked}
-use Rattle.tasks.specs.Written.{task, tableOf}
+use Rattle.tasks.specs.Written.{task}
 use Rattle.tasks.specs.Cheaper.{Cheaper}
 use Rattle.tasks.specs.Trimmed.{withBudget, withPeriod, listOf, withoutTask, chosen, chosenTable, AfterTrims, TrimsCheaper}
 use Rattle.tasks.specs.declared.task.Task.{Task}
