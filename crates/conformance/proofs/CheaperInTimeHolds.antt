@@ -24,7 +24,7 @@ use Rattle.machine.proofs.InTimeHolds.{promise}
 use Rattle.machine.proofs.Computing.{computing}
 use Rattle.conformance.specs.CheaperInTime.{StartsInTime, CheaperPromise}
 
-pub cheaper-promise : (t : Table) (m : ℕ) → CheaperPromise t m
+pub cheaper-promise : CheaperPromise
 unfolding CheaperPromise Promise StaysAdmitted
 cheaper-promise t m by-either t' m' cheaper =
     let admits : admission t m .admits ≡ true = ⊎-elim (window-admitted t m) (λ by-slack. by-slack) by-either in

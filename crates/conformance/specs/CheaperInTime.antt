@@ -19,8 +19,8 @@ pub record StartsInTime (t : Table) (m : ℕ) : Type 0 where
   pub starts : start t m .outcome ≡ Done
   pub in-time : (calls : List Call) → InTime t (play (start t m .machine) calls)
 
--- if the window test or the slack test admits the table t on m cores, this is so of every table t' that is cheaper, on its m' cores. That t' is admitted is not
--- asked.
-unfoldable pub CheaperPromise : Table → (m : ℕ) → Type 0
-CheaperPromise t m =
-    ((judged t m .admits ≡ true) ⊎ (admission t m .admits ≡ true)) → (t' : Table) (m' : ℕ) → Cheaper t m t' m' → StartsInTime t' m'
+-- if the window test or the slack test admits the table t on m cores, then `StartsInTime` of every table t' that is cheaper, on its m' cores; that t' is
+-- admitted is not asked
+unfoldable pub CheaperPromise : Type 0
+CheaperPromise =
+    (t : Table) (m : ℕ) → ((judged t m .admits ≡ true) ⊎ (admission t m .admits ≡ true)) → (t' : Table) (m' : ℕ) → Cheaper t m t' m' → StartsInTime t' m'

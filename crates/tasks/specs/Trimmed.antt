@@ -1,5 +1,5 @@
--- What document 02's change 8 does to a table: one budget or period changed, a task removed, and some of its tasks alone. Tasks are named by their index,
--- from 0.
+-- What document 02's change 8 does to a table, one budget or period changed or a task removed, and some of its tasks alone; and that each makes it cheaper. Tasks are
+-- named by their index, from 0.
 use Prim.Native.Nat.{ℕ, suc, _+_, _≤_, _<_}
 use mathlib.Core.Path.{_≡_}
 use mathlib.Core.Bool.{Bool, true, false}
@@ -15,13 +15,13 @@ use Rattle.tasks.specs.declared.task.Task.{Task}
 use Rattle.tasks.specs.declared.table.Table.{Table}
 use Rattle.tasks.specs.declared.outcome.Outcome.the-variants.{Done}
 
--- the table with this budget for task i, which may be any number
+-- the table with this budget, any number, for task i
 unfoldable pub withBudget : Table → (i budget : ℕ) → Table
 withBudget t i budget =
     let old = getD (t .tasks) i zeroTask in
     record { count = t .count; tasks = set (t .tasks) i (task (old .period) budget (old .deadline)) }
 
--- the table with this period for task i, which may be any number
+-- the table with this period, any number, for task i
 unfoldable pub withPeriod : Table → (i period : ℕ) → Table
 withPeriod t i period =
     let old = getD (t .tasks) i zeroTask in
@@ -46,7 +46,7 @@ chosen (false ∷ flags) (one ∷ tasks) = chosen flags tasks
 unfoldable pub chosenTable : Table → (flags : List Bool) → Table
 chosenTable t flags = tableOf (chosen flags (listOf t))
 
--- something holds of the table t on m cores after each sentence of change 8
+-- `holds` is true of what each sentence of change 8 makes of the table t on m cores, and of any choice of its tasks that is not empty
 pub record AfterTrims (holds : Table → (m : ℕ) → Type 0) (t : Table) (m : ℕ) : Type 0 where
   -- "with one core more, up to 16"
   pub core-more : m + 1 ≤ maxCores → holds t (m + 1)
@@ -56,9 +56,9 @@ pub record AfterTrims (holds : Table → (m : ℕ) → Type 0) (t : Table) (m : 
   pub period-raised : (i period : ℕ) → i < t .count → tasksOf t .period i ≤ period → period ≤ maxPeriod → holds (withPeriod t i period) m
   -- "with any task removed while one remains"
   pub task-removed : (i : ℕ) → i < t .count → 2 ≤ t .count → holds (withoutTask t i) m
-  -- with any choice of its tasks that is not empty
+  -- any choice that is not empty
   pub some-chosen : (flags : List Bool) → 1 ≤ chosenTable t flags .count → holds (chosenTable t flags) m
 
--- each of them makes a table that can be judged cheaper
+-- of a table that can be judged each of them makes a cheaper one
 unfoldable pub TrimsCheaper : Type 0
 TrimsCheaper = (t : Table) (m : ℕ) → checked t m ≡ Done → AfterTrims (Cheaper t m) t m
