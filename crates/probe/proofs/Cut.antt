@@ -8,7 +8,7 @@ use mathlib.Core.List.{List, [], _∷_}
 use lib.ListN.{length, take, length-drop}
 use Rattle.laws.proofs.CaseSplits.{by-test, by-order}
 use Rattle.laws.proofs.Booleans.{and-left, and-right}
-use Rattle.text.specs.Lines.{lineEnd, has, before, after, isEmpty}
+use Rattle.text.specs.Lines.{lineEnd, has, before, after, firstIs, isEmpty}
 use Rattle.text.specs.Words.{beginsWith}
 use Rattle.text.specs.Fields.{areNumbers}
 use Rattle.text.proofs.Lengths.{numbers-short}
@@ -22,7 +22,7 @@ use Rattle.script.specs.declared.calls.CallLine.the-variants as CallLine
 use Rattle.script.proofs.CallLaws.{longestCall, call-short}
 use Rattle.tasks.specs.Limits.{maxTasks}
 use Rattle.probe.specs.Words.{machineWord}
-use Rattle.probe.specs.Input.{firstIs, isMachineLine, countOf, coresOf, zeroEntries, isEntryLine, entryTask, entryJob, entryCore, withEntry, onlyCall, lastLine}
+use Rattle.probe.specs.Input.{isMachineLine, countOf, coresOf, zeroEntries, isEntryLine, entryTask, entryJob, entryCore, withEntry, onlyCall, lastLine}
 use Rattle.probe.specs.Printed.{printedFrom, printed}
 
 -- a first line that has at most b bytes with its byte 10 where it is what it must be

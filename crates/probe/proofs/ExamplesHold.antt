@@ -1,6 +1,6 @@
 -- The examples hold: antt computes what is printed for them.
 use mathlib.Core.Path.{_≡_, refl}
-use Rattle.text.specs.Lines.{has, before, after, isEmpty, fieldCount, field}
+use Rattle.text.specs.Lines.{has, before, after, firstIs, isEmpty, fieldCount, field}
 use Rattle.text.specs.Words.{beginsWith}
 use Rattle.text.specs.Number.{isDigit, allDigits, leadingZero, wellFormed, decimalFrom, decimal, isNumber, numberOf, numberAfter, digitsOf, decimalText}
 use Rattle.text.specs.Fields.{eachNumber, areNumbers}
@@ -9,7 +9,7 @@ use Rattle.machine.specs.Machine.{coreAt}
 use Rattle.machine.proofs.Computing.{computing}
 use Rattle.script.specs.Calls.{releaseOf, callWith, callOf}
 use Rattle.script.specs.Output.{badLine, acceptedLine, outcomeLine, answerLine}
-use Rattle.probe.specs.Input.{firstIs, isMachineLine, countOf, coresOf, zeroEntries, isEntryLine, entryTask, entryJob, entryCore, withEntry, onlyCall, lastLine}
+use Rattle.probe.specs.Input.{isMachineLine, countOf, coresOf, zeroEntries, isEntryLine, entryTask, entryJob, entryCore, withEntry, onlyCall, lastLine}
 use Rattle.probe.specs.Output.{entryLine, entryLines, machineLines}
 use Rattle.probe.specs.Printed.{shown, printedAsked, printedFrom, printed}
 use Rattle.probe.specs.Examples.{exampleText, exampleOutput, zeroLines, closedMachine, releaseText, releaseOutput, refusedText, refusedOutput}

@@ -10,18 +10,18 @@ use lib.ListN.{length, drop, length-drop}
 use lib.Seq.{drop-drop}
 use Rattle.laws.proofs.CaseSplits.{by-cond, clash}
 use Rattle.laws.proofs.Parts.{from, from-drop}
-use Rattle.text.specs.Lines.{lineEnd, before, after}
+use Rattle.text.specs.Lines.{lineEnd, before, after, firstIs}
 use Rattle.text.proofs.Split.{here}
+use Rattle.text.proofs.FirstLine.{is-ended}
 use Rattle.tasks.specs.Limits.{maxTasks}
 use Rattle.tasks.specs.declared.task.Task.{Task}
 use Rattle.job.specs.declared.job.Job.{Job}
 use Rattle.machine.specs.declared.machine.Machine.{Machine}
-use Rattle.probe.specs.Input.{firstIs, isEntryLine, entryTask, entryJob, entryCore, withEntry, entryFrom, lastLine}
+use Rattle.probe.specs.Input.{isEntryLine, entryTask, entryJob, entryCore, withEntry, entryFrom, lastLine}
 use Rattle.probe.specs.Printed.{printedAsked, printedFrom}
 use Rattle.probe.specs.declared.input.Asked.{Asked}
 use Rattle.probe.specs.declared.input.Asked.the-variants as Asked
 use Rattle.probe.specs.declared.input.EntryLine.the-variants.{Read, Bad}
-use Rattle.probe.proofs.InputLaws.{is-ended}
 
 -- what the line of an entry says of the text that begins with it
 record Entered (s : List ℕ) (t : Task) (j : Job) (c n : ℕ) : Type 0 where

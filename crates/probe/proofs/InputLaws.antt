@@ -1,36 +1,31 @@
--- What the first line of a text says, by what was found of it. Others cite `is-ended`, and, of the machine's line: `machine-unended`, `no-word`,
+-- What the first line of a text says, by what was found of it. Others cite, of the machine's line: `machine-unended`, `no-word`,
 -- `no-pair` and `machine-read`; of an entry's: `entry-unended`, `no-eight`, `no-flag` and `entry-read`; of the call's: `call-unended`, `no-call`,
 -- `more-follows` and `call-read`.
 use Prim.Native.Nat.{ℕ, _+_, _≤_, _<_}
 use native.Mathlib.Omega.{arith}
 use mathlib.Core.Path.{_≡_, sym, ap, _∙_}
-use mathlib.Core.Bool.{Bool, true, false}
+use mathlib.Core.Bool.{true, false}
 use mathlib.Core.List.{List}
 use borrow.Author.Tests.{le-leb, lt-leb}
 use lib.Dec.{eqb}
 use lib.ListN.{length, getD, take, replicate}
-use Rattle.laws.proofs.Booleans.{and-left}
 use Rattle.laws.proofs.Parts.{from, past, from-drop, from-length}
-use Rattle.text.specs.Lines.{lineEnd, has, before, field}
+use Rattle.text.specs.Lines.{lineEnd, has, before, firstIs, field}
 use Rattle.text.specs.Words.{beginsWith}
 use Rattle.text.specs.Number.{decimal}
-use Rattle.text.specs.Fields.{areNumbers}
+use Rattle.text.specs.Fields.{areNumbers, FilledFromLine}
 use Rattle.text.proofs.Split.{Cut, cut, hasnt-of}
 use Rattle.text.proofs.LineLaws.{no-bytes, some-bytes}
-use Rattle.script.specs.Numbers.{maxDigits, maxNumber, FilledFromLine}
+use Rattle.text.proofs.FilledFromLine.{entry-is}
+use Rattle.script.specs.Numbers.{maxDigits, maxNumber}
 use Rattle.script.specs.Calls.{callOf}
 use Rattle.script.specs.declared.calls.CallLine.the-variants as CallLine
-use Rattle.script.proofs.FilledFromLine.{entry-is}
 use Rattle.machine.specs.declared.call.Call.{Call}
 use Rattle.probe.specs.Words.{machineWord}
-use Rattle.probe.specs.Input.{firstIs, isMachineLine, countOf, coresOf, isEntryLine, entryTask, entryJob, entryCore, firstLine, entryFrom, callNumber, onlyCall, lastLine}
+use Rattle.probe.specs.Input.{isMachineLine, countOf, coresOf, isEntryLine, entryTask, entryJob, entryCore, firstLine, entryFrom, callNumber, onlyCall, lastLine}
 use Rattle.probe.specs.declared.input.FirstLine.the-variants as First
 use Rattle.probe.specs.declared.input.EntryLine.the-variants as Entry
 use Rattle.probe.specs.declared.input.Asked.the-variants as Asked
-
-pub is-ended : (must : List ℕ → Bool) (s : List ℕ) → firstIs must s ≡ true → has lineEnd s ≡ true
-unfolding firstIs
-is-ended must s b = and-left (has lineEnd s) (must (before lineEnd s)) b
 
 module _ (s : List ℕ) (k : ℕ) (e : k ≡ length (before lineEnd s)) where
   -- the line is not ended

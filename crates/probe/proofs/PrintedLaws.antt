@@ -6,15 +6,15 @@ use mathlib.Core.List.{List}
 use lib.ListN.{length}
 use Rattle.laws.proofs.CaseSplits.{by-cond, clash}
 use Rattle.laws.proofs.Parts.{from, from-drop}
-use Rattle.text.specs.Lines.{lineEnd, before}
+use Rattle.text.specs.Lines.{lineEnd, before, firstIs}
 use Rattle.text.proofs.Split.{here}
+use Rattle.text.proofs.FirstLine.{is-ended}
 use Rattle.tasks.specs.Limits.{maxTasks}
 use Rattle.machine.specs.declared.machine.Machine.{Machine}
-use Rattle.probe.specs.Input.{firstIs, isMachineLine, countOf, coresOf, zeroEntries, firstLine}
+use Rattle.probe.specs.Input.{isMachineLine, countOf, coresOf, zeroEntries, firstLine}
 use Rattle.probe.specs.Printed.{printedAsked, printedFrom, printed}
 use Rattle.probe.specs.declared.input.FirstLine.the-variants as First
 use Rattle.probe.specs.declared.input.Asked.the-variants.{Bad}
-use Rattle.probe.proofs.InputLaws.{is-ended}
 
 module _ (s : List ℕ) where
   pub no-machine : (m : Machine) → firstLine s ≡ First.Bad → printed s ≡ printedAsked m (Bad 1)

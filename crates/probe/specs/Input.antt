@@ -5,7 +5,7 @@ use mathlib.Core.List.{List}
 use mathlib.Core.Bool.{Bool, cond, _&&_}
 use lib.Dec.{eqb, leb}
 use lib.ListN.{length, drop, set, replicate}
-use Rattle.text.specs.Lines.{lineEnd, has, before, after, isEmpty, field}
+use Rattle.text.specs.Lines.{lineEnd, has, before, after, firstIs, isEmpty, field}
 use Rattle.text.specs.Words.{beginsWith}
 use Rattle.text.specs.Number.{decimal}
 use Rattle.text.specs.Fields.{areNumbers}
@@ -26,10 +26,6 @@ use Rattle.probe.specs.declared.input.EntryLine.{EntryLine}
 use Rattle.probe.specs.declared.input.EntryLine.the-variants as Entry
 use Rattle.probe.specs.declared.input.Asked.{Asked}
 use Rattle.probe.specs.declared.input.Asked.the-variants as Asked
-
--- whether the first line of a text is ended and is what it must be: "each line, the last one too, ends with byte 10"
-unfoldable pub firstIs : (must : List ℕ → Bool) → List ℕ → Bool
-firstIs must s = has lineEnd s && must (before lineEnd s)
 
 -- "`MACHINE count cores`", where "count and cores are such numbers"
 unfoldable pub isMachineLine : List ℕ → Bool

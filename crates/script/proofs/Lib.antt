@@ -1,4 +1,3 @@
-pub mod FilledFromLine
 pub mod CallLaws
 pub mod JoinLaws
 pub mod OutputLaws

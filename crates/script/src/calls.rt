@@ -1,5 +1,4 @@
 // The call of a line, which stands here without its byte 10.
-use crate::numbers::fill_from_line;
 use machine::call::Call;
 use tasks::task::Task;
 use text::bytes;
@@ -27,7 +26,7 @@ fn release_fields(fields: &[u8]) -> CallLine
     ensures { λ r. ⌜ r ≡ releaseOf (now (fields .entry)) ⌝ }
 {
     let mut numbers = [0u32; 2];
-    if !fill_from_line(fields, &mut numbers, MAX_DIGITS, MAX_NUMBER) {
+    if !fields::fill_from_line(fields, &mut numbers, MAX_DIGITS, MAX_NUMBER) {
         return CallLine::Bad;
     }
     CallLine::Read(Call::Release {

@@ -1,4 +1,3 @@
-// Lines of calls, of their answers and of numbers, for replay and probe.
+// Lines of calls and of their answers, for replay and probe.
 pub mod calls;
-pub mod numbers;
 pub mod output;

@@ -1,4 +1,4 @@
--- What an outcome says where the call was carried out: `is-done`, and `past-test`, that no test refused it. Of one that is not
+-- What an outcome says where the call was carried out: `is-done`, `past-test`, that no test refused it, and `both-done`, of two tests in turn. Of one that is not
 -- number 0, `Not0`: `done-not-0` and `refused-not-0`. Of the numbers that refusals have, `Numbered`: `done-numbered` and `refused-numbered`. `by-outcome` goes
 -- by the outcome.
 use Prim.Native.Nat.{ℕ, _<_}
@@ -8,7 +8,7 @@ use mathlib.Core.Bool.{Bool, true, false, cond}
 use Rattle.laws.proofs.CaseSplits.{not-both, by-cond, clash}
 use Rattle.tasks.specs.declared.outcome.Outcome.{Outcome}
 use Rattle.tasks.specs.declared.outcome.Outcome.the-variants.{Done, Refused}
-use Rattle.tasks.specs.Outcome.{isDone}
+use Rattle.tasks.specs.Outcome.{isDone, firstRefusal}
 use Rattle.tasks.specs.Refusals.{unsoundMachine}
 
 pub by-outcome : {A : Type 0} (o : Outcome) → (o ≡ Done → A) → ((number place : ℕ) → o ≡ Refused number place → A) → A
@@ -23,6 +23,11 @@ is-done (Refused number place) e = not-both false e refl
 pub past-test :
     {A : Type 0} (test : Bool) (number place : ℕ) {o : Outcome} → (test ≡ false → o ≡ Done → A) → cond test (Refused number place) o ≡ Done → A
 past-test {A} test number place on = by-cond (λ o. o ≡ Done → A) test (λ refused e. clash cc) on
+
+pub both-done : (a b : Outcome) → firstRefusal a b ≡ Done → (a ≡ Done) × (b ≡ Done)
+unfolding firstRefusal
+both-done Done b e = (refl, e)
+both-done (Refused number place) b e = clash cc
 
 -- the outcome is not number 0
 pub record Not0 (o : Outcome) : Type 0 where

@@ -7,3 +7,8 @@ use Rattle.tasks.specs.declared.outcome.Outcome.the-variants.{Done, Refu
 unfoldable pub isDone : Outcome → Bool
 isDone Done = true
 isDone (Refused number place) = false
+
+-- the refusal of one test, or else what the next test gives
+unfoldable pub firstRefusal : Outcome → Outcome → Outcome
+firstRefusal Done next = next
+firstRefusal (Refused number place) next = Refused number place

@@ -60,3 +60,7 @@ slotCoresOutOfRange = 14
 -- change 5: "e of 0 or above C: number 15"
 abbrev pub needOutOfRange : ℕ
 needOutOfRange = 15
+
+-- change 9: "A least above its most: number 16"
+abbrev pub leastAboveMost : ℕ
+leastAboveMost = 16

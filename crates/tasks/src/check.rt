@@ -60,6 +60,16 @@ fn first_number_out_of_range<'a>(
     0
 }
 
+// Whether a number of cores is one of 1 to 16: what number 7 refuses otherwise.
+pub fn cores_in_range(cores: u32) -> bool
+    ensures { λ r. ⌜ r ≡ coresInRange cores ⌝ }
+{
+    if cores < 1 {
+        return false;
+    }
+    cores <= MAX_CORES
+}
+
 // Past number 3: Done, or the refusal by how many tasks there are, by the first of them that is out of range, or by the cores.
 fn check_rest(count: usize, place: u32, cores: u32) -> Outcome
     ensures { λ r. ⌜ r
@@ -78,13 +88,7 @@ fn check_rest(count: usize, place: u32, cores: u32) -> Outcome
             place,
         };
     }
-    if cores < 1 {
-        return Outcome::Refused {
-            number: CORES_OUT_OF_RANGE,
-            place: 0,
-        };
-    }
-    if MAX_CORES < cores {
+    if !cores_in_range(cores) {
         return Outcome::Refused {
             number: CORES_OUT_OF_RANGE,
             place: 0,
@@ -94,7 +98,7 @@ fn check_rest(count: usize, place: u32, cores: u32) -> Outcome
 }
 
 // The refusal of a table of more than 32 tasks.
-fn too_many() -> Outcome
+pub fn too_many() -> Outcome
     ensures { λ r. ⌜ r ≡ Refused tooManyTasks (maxTasks + 1) ⌝ }
 {
     Outcome::Refused {

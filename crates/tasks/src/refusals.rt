@@ -29,3 +29,5 @@ pub const NOT_ADMITTED: u32 = 13;
 pub const SLOT_CORES_OUT_OF_RANGE: u32 = 14;
 
 pub const NEED_OUT_OF_RANGE: u32 = 15;
+
+pub const LEAST_ABOVE_MOST: u32 = 16;

@@ -5,10 +5,12 @@ pub mod NumberLaws
 pub mod NumberScan
 pub mod DigitLaws
 pub mod LineLaws
+pub mod FirstLine
 pub mod FieldLaws
 pub mod CutFields
 pub mod NumbersOn
 pub mod ThreeNumbers
+pub mod FilledFromLine
 pub mod Lengths
 pub mod Taken
 pub mod Putting

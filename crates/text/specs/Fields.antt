@@ -1,6 +1,7 @@
 -- Lines of fields: document 01, "The table as text"; for any number of them docs/HANDBOOK.md, "Probing one call".
 use Prim.Native.Nat.{ℕ, zero, suc}
-use mathlib.Core.List.{List}
+use mathlib.Core.Path.{_≡_}
+use mathlib.Core.List.{List, [], _∷_}
 use mathlib.Core.Bool.{Bool, true, cond, _&&_}
 use lib.Dec.{eqb}
 use lib.ListN.{length}
@@ -24,3 +25,14 @@ unfoldable pub threeNumbers : (digits largest : ℕ) → List ℕ → Numbers
 threeNumbers digits largest s =
     let l = before lineEnd s in
     cond (areNumbers digits largest 3 l) (Numbers.Three (decimal (field 0 l)) (decimal (field 1 l)) (decimal (field 2 l)) (length l)) Numbers.Broken
+
+-- an array whose first entries become the numbers that a line begins with, up to the first field that is none; the others stay
+unfoldable pub numbersInto : (digits largest : ℕ) → (line array : List ℕ) → List ℕ
+numbersInto digits largest l [] = []
+numbersInto digits largest l (x ∷ a) =
+    cond (isNumber digits largest (field 0 l)) (decimal (field 0 l) ∷ numbersInto digits largest (after space l) a) (x ∷ a)
+
+-- what filling an array from a line answers, whether the line is as many numbers as the array has entries, and the array after it
+pub record FilledFromLine (digits largest : ℕ) (line array after : List ℕ) (r : Bool) : Type 0 where
+  pub is : r ≡ areNumbers digits largest (length array) line
+  pub filled : after ≡ numbersInto digits largest line array

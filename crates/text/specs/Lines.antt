@@ -1,7 +1,7 @@
 -- Lines of a text and fields of a line: document 01, "The table as text"; for all lines of a text docs/HANDBOOK.md, "Replaying calls".
 use Prim.Native.Nat.{ℕ, zero, suc}
 use mathlib.Core.List.{List, [], _∷_}
-use mathlib.Core.Bool.{Bool, true, false, cond, _||_}
+use mathlib.Core.Bool.{Bool, true, false, cond, _&&_, _||_}
 use lib.Dec.{eqb}
 
 -- "each line ends with one byte 10"
@@ -26,6 +26,10 @@ before b (x ∷ s) = cond (eqb x b) [] (x ∷ before b s)
 unfoldable pub after : ℕ → List ℕ → List ℕ
 after b [] = []
 after b (x ∷ s) = cond (eqb x b) s (after b s)
+
+-- whether the first line of a text is ended and is what it must be
+unfoldable pub firstIs : (must : List ℕ → Bool) → List ℕ → Bool
+firstIs must s = has lineEnd s && must (before lineEnd s)
 
 -- whether nothing is left of a text
 unfoldable pub isEmpty : List ℕ → Bool

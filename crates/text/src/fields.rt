@@ -1,8 +1,8 @@
-// Lines of three fields, with one space between them.
+// Lines of numbers, with one space between them.
 use crate::number;
 use crate::number::Before;
 ghost use mathlib.Core.Path.{_≡_};
-ghost use Rattle.text.specs.Fields.{threeNumbers};
+ghost use Rattle.text.specs.Fields.{threeNumbers, FilledFromLine};
 
 // The numbers of a line of three fields, in their order, or that they are not three numbers. The line is `length` bytes long.
 pub enum Numbers {
@@ -51,4 +51,26 @@ pub fn three_numbers(text: &[u8], digits: usize, largest: u32) -> Numbers
         third: c,
         length: length + 1 + more + 1 + most,
     }
+}
+
+// Whether a line, which stands here without its byte 10, is as many numbers as the array has entries. The numbers that it begins with are then the
+// array's first entries, up to the first field that is none; where it is as many, they are all of them.
+pub fn fill_from_line(line: &[u8], numbers: &mut [u32], digits: usize, largest: u32) -> bool
+    ensures { λ r. ⌜ FilledFromLine digits largest (now (line .entry)) (now (numbers .entry)) (now (numbers .exit)) r ⌝ }
+{
+    let mut rest = line;
+    let mut i: usize = 0;
+    while i < numbers.len() {
+        let Before::Read { number, length } = number::number_up_to(rest, b' ', digits, largest)
+        else {
+            return false;
+        };
+        numbers[i] = number;
+        i += 1;
+        if rest.len() <= length {
+            return i == numbers.len();
+        }
+        rest = &rest[length + 1..];
+    }
+    false
 }

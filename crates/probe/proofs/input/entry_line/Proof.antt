@@ -9,7 +9,8 @@ use borrow.Author.Needs.{needs}
 use lib.ListN.{take, replicate}
 use lib.Seq.{length-take-le}
 use Rattle.laws.proofs.Booleans.{was-false}
-use Rattle.script.specs.Numbers.{maxDigits, maxNumber, FilledFromLine}
+use Rattle.text.specs.Fields.{FilledFromLine}
+use Rattle.script.specs.Numbers.{maxDigits, maxNumber}
 use Rattle.probe.proofs.InputLaws.{entry-unended, no-eight, no-flag, entry-read}
 use Rattle.probe.proofs.input.entry_line.Statement.{statement}
 use Rattle.probe.proofs.input.entry_line.Tie as tie

@@ -8,12 +8,12 @@ use borrow.Author.Needs.{needs}
 use borrow.Author.Tests.{not-false}
 use lib.ListN.{getD, replicate}
 use Rattle.laws.proofs.Booleans.{was-false}
-use Rattle.text.specs.Fields.{areNumbers}
+use Rattle.text.specs.Fields.{areNumbers, FilledFromLine}
+use Rattle.text.proofs.FilledFromLine.{entry-is}
 use Rattle.machine.specs.declared.call.Call.the-variants.{Release}
-use Rattle.script.specs.Numbers.{maxDigits, maxNumber, FilledFromLine}
+use Rattle.script.specs.Numbers.{maxDigits, maxNumber}
 use Rattle.script.specs.Calls.{releaseOf}
 use Rattle.script.specs.declared.calls.CallLine.the-variants.{Read, Bad}
-use Rattle.script.proofs.FilledFromLine.{entry-is}
 use Rattle.script.proofs.calls.release_fields.Statement.{statement}
 use Rattle.script.proofs.calls.release_fields.Tie as tie
 

@@ -14,14 +14,13 @@ use lib.Seq.{drop-cons, set-split, take-all, take-suc-set, drop-set-lt}
 use Rattle.laws.proofs.CaseSplits.{by-test}
 use Rattle.laws.proofs.Tests.{same-eqb}
 use Rattle.laws.proofs.Parts.{past, from-length}
 use Rattle.text.specs.Lines.{space, has, before, after, field}
 use Rattle.text.specs.Number.{decimal, wellFormed, isNumber, numberUpTo}
-use Rattle.text.specs.Fields.{areNumbers}
+use Rattle.text.specs.Fields.{areNumbers, numbersInto, FilledFromLine}
 use Rattle.text.specs.declared.number.Before.the-variants.{Read, Broken}
 use Rattle.text.proofs.Split.{gone-rest, hasnt-of, cut}
 use Rattle.text.proofs.NumberLaws.{up-to, not-up-to}
 use Rattle.text.proofs.NumbersOn.{no-numbers, first-none, first-only, first-then}
-use Rattle.script.specs.Numbers.{numbersInto, FilledFromLine}
 
 module _ (k largest : ℕ) where
   -- between two fields: the array's first i entries are done, and the rest of the line goes into the others

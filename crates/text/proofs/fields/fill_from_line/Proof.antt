@@ -4,12 +4,12 @@ use native.Mathlib.Omega.{arith}
 use mathlib.Core.Path.{_≡_, sym, _∙_}
 use borrow.Author.Needs.{needs}
 use lib.ListN.{length, length-set}
 use Rattle.text.specs.Lines.{space}
 use Rattle.text.specs.Number.{numberUpTo}
 use Rattle.text.specs.declared.number.Before.the-variants.{Read}
-use Rattle.script.proofs.FilledFromLine.{SoFar, so-far-none, so-far-more, no-number, last-field, fields-left}
-use Rattle.script.proofs.numbers.fill_from_line.Statement.{statement}
-use Rattle.script.proofs.numbers.fill_from_line.Tie as tie
+use Rattle.text.proofs.FilledFromLine.{SoFar, so-far-none, so-far-more, no-number, last-field, fields-left}
+use Rattle.text.proofs.fields.fill_from_line.Statement.{statement}
+use Rattle.text.proofs.fields.fill_from_line.Tie as tie
 
 abbrev Inv-loop : tie.InvT-loop
 Inv-loop line numbers₀ digits largest rest₀ i₀ numbers rest i = SoFar digits largest line numbers₀ numbers rest i
