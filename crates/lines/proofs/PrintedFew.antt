@@ -1,4 +1,4 @@
--- What is printed has room. Others cite `printed-held`: an array with room for it holds all of it.
+-- What is printed has room. Others cite `printed-held`: an array with room for it holds all of it; and `lines-few`, how many bytes lines have of which each has few.
 use Prim.Native.Nat.{ℕ, zero, suc, _*_, _≤_, _<_, min}
 use native.Mathlib.Omega.{arith}
 use mathlib.Core.Path.{refl}
@@ -21,7 +21,7 @@ use Rattle.judge.proofs.Outcome.{count-small}
 use Rattle.judge.proofs.SlackOutcome.{rounds-small}
 use Rattle.lines.specs.declared.Test.{Test}
 use Rattle.lines.specs.declared.Test.the-variants.{Window, Slack}
-use Rattle.lines.specs.Printed.{header, lineNumbers, verdictLine, verdictLines, printedAfter, printed, room}
+use Rattle.lines.specs.Printed.{header, lineNumbers, verdictLine, linesUpTo, printedAfter, printed, room}
 
 header-few : (test : Test) → length (header test) ≤ 19
 unfolding header
@@ -42,15 +42,15 @@ unfolding verdictLine lineNumbers
 line-few Window t m h = numbers-few m (judged t m .count) (judged t m .admits) h (omega (arith, count-small t m))
 line-few Slack t m h = numbers-few m (slackJudged t m .rounds) (slackJudged t m .admits) h (omega (arith, rounds-small t m))
 
-lines-few : (test : Test) (t : Table) (n : ℕ) → n < 100 → length (verdictLines test t n) ≤ 8 * n
-unfolding verdictLines
-lines-few test t zero h = omega arith
-lines-few test t (suc n) h = simp length-append (omega (arith, lines-few test t n (omega arith), line-few test t (suc n) h))
+pub lines-few : (line : ℕ → List ℕ) (most : ℕ) → ((m : ℕ) → m < 100 → length (line m) ≤ most) → (n : ℕ) → n < 100 → length (linesUpTo line n) ≤ n * most
+unfolding linesUpTo
+lines-few line most few zero h = omega arith
+lines-few line most few (suc n) h = simp length-append (omega (arith, lines-few line most few n (omega arith), few (suc n) h))
 
 after-few : (test : Test) (o : Outcome) (t : Table) → Below 6 o → length (printedAfter test o t) ≤ room
 unfolding printedAfter refusedLine numbersLine furtherNumbers
 after-few test Done t b =
-    simp length-append (omega (arith, header-few test, lines-few test t (min maxCores (t .count)) (omega arith)))
+    simp length-append (omega (arith, header-few test, lines-few (verdictLine test t) 8 (line-few test t) (min maxCores (t .count)) (omega arith)))
 after-few test (Refused number place) t b = simp length-append (omega (arith, text-few 0 number (omega (arith, b number place refl))))
 
 printed-few : (test : Test) (s : List ℕ) → length (printed test s) ≤ room

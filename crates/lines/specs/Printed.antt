@@ -28,15 +28,15 @@ lineNumbers Slack t m = m ∷ slackJudged t m .rounds ∷ cond (slackJudged t m 
 unfoldable pub verdictLine : Test → Table → (m : ℕ) → List ℕ
 verdictLine test t m = numbersLine (lineNumbers test t m)
 
--- "for m = 1 up to" n
-unfoldable pub verdictLines : Test → Table → (n : ℕ) → List ℕ
-verdictLines test t zero = []
-verdictLines test t (suc n) = verdictLines test t n ++ verdictLine test t (suc n)
+-- "for m = 1 up to" n a line each
+unfoldable pub linesUpTo : (line : (m : ℕ) → List ℕ) → (n : ℕ) → List ℕ
+linesUpTo line zero = []
+linesUpTo line (suc n) = linesUpTo line n ++ line (suc n)
 
 -- document 01: "a line of names, then for m = 1 up to the smaller of 16 and the number of tasks"; "A refused table prints `REFUSED`, a space and the
 -- refusal number"; the handbook: "a refused table prints as in `verdict`"
 unfoldable pub printedAfter : Test → Outcome → Table → List ℕ
-printedAfter test Done t = header test ++ verdictLines test t (min maxCores (t .count))
+printedAfter test Done t = header test ++ linesUpTo (verdictLine test t) (min maxCores (t .count))
 printedAfter test (Refused number place) t = refusedLine number
 
 -- document 01: "reads a table from standard input and prints": what is printed for a text

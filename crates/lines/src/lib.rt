@@ -1,4 +1,4 @@
-// The lines that verdict and sharper print of a table. What puts them answers how many bytes the array then holds.
+// The lines that verdict and sharper print of a table, and what quote shares with them. What puts them answers how many bytes the array then holds.
 use judge::slack::judge_by_slack;
 use tasks::limits::MAX_CORES;
 use tasks::outcome::Outcome;
@@ -11,7 +11,7 @@ ghost use mathlib.Core.Path.{_≡_};
 ghost use mathlib.Core.List.{_++_};
 ghost use Rattle.text.specs.Output.{Put};
 ghost use Rattle.tasks.specs.Limits.{maxCores};
-ghost use Rattle.lines.specs.Printed.{header, lineNumbers, verdictLine, verdictLines, printed};
+ghost use Rattle.lines.specs.Printed.{header, lineNumbers, verdictLine, linesUpTo, printed};
 
 // Which test's lines are printed: verdict's or sharper's.
 pub enum Test {
@@ -61,7 +61,7 @@ fn put_line(output: &mut [u8], used: usize, test: Test, table: Table, cores: u32
 }
 
 // The largest number of cores that has a line.
-fn last_cores(count: usize) -> u32
+pub fn last_cores(count: usize) -> u32
     ensures { λ r. ⌜ r ≡ min maxCores count ⌝ }
 {
     if count < MAX_CORES as usize {
@@ -72,7 +72,7 @@ fn last_cores(count: usize) -> u32
 
 // The line of names and the lines of the numbers of cores.
 fn put_lines(output: &mut [u8], test: Test, table: Table) -> usize
-    ensures { λ r. ⌜ Put (now (output .entry)) 0 (header test ++ verdictLines test table (min maxCores (table .count))) (now (output .exit)) r ⌝ }
+    ensures { λ r. ⌜ Put (now (output .entry)) 0 (header test ++ linesUpTo (verdictLine test table) (min maxCores (table .count))) (now (output .exit)) r ⌝ }
 {
     let last = last_cores(table.count);
     let mut used = put_header(output, test);

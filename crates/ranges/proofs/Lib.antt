@@ -1,4 +1,5 @@
 pub mod RangesPass
+pub mod Small
 pub mod WithinLaws
 pub mod QuoteLaws
 pub mod QuoteTrue

@@ -1,19 +1,20 @@
--- What it says of ranges and a number of cores that no refusal stands against them: `passes`, and the fields of `Passes` and `TaskPasses`.
+-- What it says of ranges and a number of cores that no refusal stands against them: `passes`, and the fields of `Passes` and `TaskPasses`; and `passed`, what it
+-- takes.
 use Prim.Native.Nat.{ℕ, zero, suc, _+_, _≤_, _<_}
 use native.Mathlib.Omega.{arith}
 use mathlib.Core.Path.{_≡_, refl}
-use mathlib.Core.Bool.{Bool, true, false, cond, _&&_}
+use mathlib.Core.Bool.{true, _&&_}
 use mathlib.Core.List.{List}
 use lib.Dec.{eqb, leb}
 use lib.ListN.{getD}
-use borrow.Author.Tests.{not-false, leb-true, ltb-false, eqb-false}
+use borrow.Author.Tests.{not-false, leb-true, ltb-false, eqb-false, le-leb, le-ltb, ne-eqb}
 use Rattle.laws.proofs.CaseSplits.{by-order, by-cond, clash}
 use Rattle.laws.proofs.Booleans.{and-left, and-right}
 use Rattle.tasks.specs.Limits.{maxTasks, maxCores}
 use Rattle.tasks.specs.Task.{inRange}
 use Rattle.tasks.specs.Check.{coresInRange}
-use Rattle.tasks.specs.declared.outcome.Outcome.{Outcome}
-use Rattle.tasks.specs.declared.outcome.Outcome.the-variants.{Done, Refused}
+use Rattle.tasks.specs.Outcome.{firstRefusal}
+use Rattle.tasks.specs.declared.outcome.Outcome.the-variants.{Done}
 use Rattle.tasks.proofs.OutcomeLaws.{past-test, both-done}
 use Rattle.ranges.specs.declared.corner.Corner.{Corner}
 use Rattle.ranges.specs.declared.corner.Corner.the-variants.{Dearest, Cheapest}
@@ -81,3 +82,30 @@ passes r m =
       cores-some = cores-pass m cores .0;
       cores-fit = cores-pass m cores .1;
     }
+
+-- and the other way round
+none-refused : (tasks : List RangedTask) (n i : ℕ) →
+    ((j : ℕ) → i ≤ j → j < i + n → taskChecked (getD tasks j zeroRangedTask) (j + 1) ≡ Done) →
+    tasksChecked tasks i n ≡ Done
+unfolding tasksChecked firstRefusal
+none-refused tasks zero i each = refl
+none-refused tasks (suc n) i each = rw (each i (omega arith) (omega arith)) (none-refused tasks n (i + 1) (λ j l h. each j (omega arith) (omega arith)))
+
+-- ranges of which no task is refused
+pub record TasksPass (r : RangedTable) : Type 0 where
+  pub count-some : 1 ≤ r .count
+  pub count-fits : r .count ≤ maxTasks
+  pub each-checked : (i : ℕ) → i < r .count → taskChecked (getD (r .tasks) i zeroRangedTask) (i + 1) ≡ Done
+
+pub passed : (r : RangedTable) (m : ℕ) → TasksPass r → 1 ≤ m → m ≤ maxCores → rangesChecked r m ≡ Done
+unfolding rangesChecked firstRefusal coresChecked coresInRange
+passed r m fit some fits =
+    let in-table : (i : ℕ) → 0 ≤ i → i < 0 + r .count → taskChecked (getD (r .tasks) i zeroRangedTask) (i + 1) ≡ Done
+    = λ i l h. fit .each-checked i (omega arith) in
+    rw (
+      le-ltb maxTasks (r .count) (fit .count-fits),
+      ne-eqb (r .count) 0 (omega (arith, fit .count-some)),
+      none-refused (r .tasks) (r .count) 0 in-table,
+      le-leb 1 m some,
+      le-leb m maxCores fits,
+    )

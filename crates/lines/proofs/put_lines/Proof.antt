@@ -7,25 +7,25 @@ use borrow.Author.Needs.{needs}
 use Rattle.text.specs.Output.{Put}
 use Rattle.text.proofs.Putting.{put-none, put-then, put-size}
 use Rattle.tasks.specs.Limits.{maxCores}
-use Rattle.lines.specs.Printed.{verdictLines}
+use Rattle.lines.specs.Printed.{verdictLine, linesUpTo}
 use Rattle.lines.proofs.put_lines.Statement.{statement}
 use Rattle.lines.proofs.put_lines.Tie as tie
 
 abbrev Inv-loop : tie.InvT-loop
-Inv-loop output₀ test table last used₀ cores₀ output used cores = (cores ≤ last) × Put output₀ used₀ (verdictLines test table cores) output used
+Inv-loop output₀ test table last used₀ cores₀ output used cores = (cores ≤ last) × Put output₀ used₀ (linesUpTo (verdictLine test table) cores) output used
 
 abbrev μ-loop : tie.MeasureT-loop
 μ-loop output₀ test table last used₀ cores₀ output used cores = last - cores
 
 loop-holds : tie.Need-loop-holds Inv-loop μ-loop
-unfolding verdictLines
+unfolding linesUpTo
 loop-holds c = (omega arith, put-none _ _)
 
 add-cores : tie.Need-add-cores Inv-loop μ-loop
 add-cores c = omega (arith, c .before .before .before .before .before .before .last-cores .ensures)
 
 loop-again : tie.Need-loop-again Inv-loop μ-loop
-unfolding verdictLines
+unfolding linesUpTo
 loop-again c =
     let p = c .before .before in
     let l = p .before .before .before in

@@ -1,0 +1,23 @@
+-- The examples of what is printed all hold: antt computes every entry of the list.
+use mathlib.Core.Path.{_≡_, refl}
+use mathlib.Core.Bool.{true}
+use Rattle.laws.specs.Examples.{sameNumbers, allTrue}
+use Rattle.text.specs.Lines.{has, before, after, firstIs, isEmpty, fieldCount, field}
+use Rattle.text.specs.Words.{sameBytes}
+use Rattle.text.specs.Number.{isDigit, allDigits, leadingZero, wellFormed, decimalFrom, decimal, digitsOf, decimalText}
+use Rattle.text.specs.Output.{furtherNumbers, numbersLine, refusedLine}
+use Rattle.lines.specs.Printed.{linesUpTo}
+use Rattle.reader.specs.Value.{isValue}
+use Rattle.ranges.proofs.Computing.{computingRanges}
+use Rattle.quote.specs.Reading.{refused, isNames, fiveValues, rangedTaskOf, ended, orRefused, rangeLines, reading}
+use Rattle.quote.specs.Printed.{header, answerWord, quoteLine, printedAfter, printed}
+use Rattle.quote.specs.Examples.{rangesText, handbookValues, handbookOutput, fiveThenSixteen, sixteenBeforeFive, otherOrder, printedExamples}
+
+pub printed-examples-hold : allTrue printedExamples ≡ true
+unfolding
+    computingRanges allTrue sameNumbers
+    has before after firstIs isEmpty fieldCount field sameBytes
+    isDigit allDigits leadingZero wellFormed decimalFrom decimal digitsOf decimalText furtherNumbers numbersLine refusedLine linesUpTo isValue
+    refused isNames fiveValues rangedTaskOf ended orRefused rangeLines reading header answerWord quoteLine printedAfter printed
+    rangesText handbookValues handbookOutput fiveThenSixteen sixteenBeforeFive otherOrder printedExamples
+printed-examples-hold = refl

@@ -1,0 +1,6 @@
+pub mod RangeLine
+pub mod RangeLines
+pub mod NamesLine
+pub mod ReadLaws
+pub mod PrintedFew
+pub mod ExamplesHold
