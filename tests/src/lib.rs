@@ -1,12 +1,14 @@
-//! An independent check of the table reader, the window test, the slack test and the
-//! slot machine, compared with the C entry and the programs. It was written from
-//! document 01, changes 1 to 8 of document 02, the handbook's formats and what
+//! An independent check of the table reader, the window test, the slack test, the quotes over
+//! ranges and the slot machine, compared with the C entry and the programs. It was written from
+//! document 01, changes 1 to 9 of document 02, the handbook's formats and what
 //! docs/DECISIONS.md settles of these, and from no definition or code of crates/.
 
 pub mod answers;
+pub mod any_ranges;
 pub mod assignment;
 pub mod boundary_lines;
 pub mod cheaper;
+pub mod choice_events;
 pub mod cores;
 pub mod document_000;
 pub mod edges;
@@ -27,7 +29,12 @@ pub mod probe_check;
 pub mod probes;
 pub mod program;
 pub mod promise;
+pub mod quote_events;
+pub mod quotes;
 pub mod random;
+pub mod range_faults;
+pub mod range_texts;
+pub mod ranges;
 pub mod reading;
 pub mod script;
 pub mod scripts;
@@ -38,6 +45,7 @@ pub mod sharper_lines;
 pub mod slack;
 pub mod slack_counter;
 pub mod slow;
+pub mod small_ranges;
 pub mod sum_lines;
 pub mod tables;
 pub mod tally;
@@ -46,3 +54,4 @@ pub mod texts;
 pub mod ties;
 pub mod window;
 pub mod wrong;
+pub mod wrong_quotes;

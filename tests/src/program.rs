@@ -20,6 +20,11 @@ pub fn sharper_output(text: &[u8]) -> Vec<u8> {
     output("SHARPER", "sharper", text)
 }
 
+/// Everything that `quote` prints for a text of ranges.
+pub fn quote_output(text: &[u8]) -> Vec<u8> {
+    output("QUOTE", "quote", text)
+}
+
 /// Everything that the program that prints a whole reading prints for a text.
 pub fn reading_output(text: &[u8]) -> Vec<u8> {
     output("READING", "test_reading", text)

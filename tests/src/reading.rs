@@ -29,7 +29,7 @@ pub fn read(text: &[u8]) -> Result<Vec<Task>, Refusal> {
 
 // The columns of period, budget and deadline, and the text after the names line.
 fn read_names(text: &[u8]) -> Option<([usize; 3], &[u8])> {
-    let (fields, after) = read_line(text)?;
+    let (fields, after) = read_line::<3>(text)?;
     let mut columns = [0; 3];
     for (column, name) in columns.iter_mut().zip(NAMES) {
         *column = fields.iter().position(|field| *field == name)?;
@@ -42,7 +42,7 @@ fn read_task(rest: &[u8], columns: [usize; 3], place: usize) -> Result<(Task, &[
     if place > MOST_TASKS {
         return Err(Refusal::at(3, place));
     }
-    let (values, after) = read_values(rest).ok_or(Refusal::at(4, place))?;
+    let (values, after) = read_values::<3>(rest).ok_or(Refusal::at(4, place))?;
     let [period, budget, deadline] = columns.map(|column| values[column]);
     let task = Task::new(period, budget, deadline);
     if !task.fits() {
@@ -51,18 +51,18 @@ fn read_task(rest: &[u8], columns: [usize; 3], place: usize) -> Result<(Task, &[
     Ok((task, after))
 }
 
-// The three values of the first line in their written order, and the text after it.
-fn read_values(text: &[u8]) -> Option<([u32; 3], &[u8])> {
-    let (fields, after) = read_line(text)?;
-    let mut values = [0; 3];
+/// The values of the first line in their written order, just so many, and the text after it.
+pub fn read_values<const COUNT: usize>(text: &[u8]) -> Option<([u32; COUNT], &[u8])> {
+    let (fields, after) = read_line::<COUNT>(text)?;
+    let mut values = [0; COUNT];
     for (value, field) in values.iter_mut().zip(fields) {
         *value = read_value(field)?;
     }
     Some((values, after))
 }
 
-// The three fields of the first line and the text after its byte 10.
-fn read_line(text: &[u8]) -> Option<([&[u8]; 3], &[u8])> {
+/// The fields of the first line, just so many, and the text after its byte 10.
+pub fn read_line<const COUNT: usize>(text: &[u8]) -> Option<([&[u8]; COUNT], &[u8])> {
     let end = text.iter().position(|byte| *byte == LINE_END)?;
     let fields: Vec<&[u8]> = text[..end].split(|byte| *byte == b' ').collect();
     Some((fields.try_into().ok()?, &text[end + 1..]))

@@ -105,7 +105,7 @@ fn valid(random: &mut Random) -> Vec<u8> {
 fn damaged(random: &mut Random) -> Vec<u8> {
     let mut text = valid(random);
     for _ in 0..=random.pick(&[0, 0, 0, 1, 2]) {
-        random.pick(&DAMAGES)(random, &mut text);
+        damage(random, &mut text);
     }
     text
 }
@@ -123,9 +123,14 @@ fn unfit(random: &mut Random) -> Vec<u8> {
     }
     let mut text = write(&table, random.pick(&ORDERS));
     if random.one_in(3) {
-        random.pick(&DAMAGES)(random, &mut text);
+        damage(random, &mut text);
     }
     text
+}
+
+/// One damage, of any text.
+pub fn damage(random: &mut Random, text: &mut Vec<u8>) {
+    random.pick(&DAMAGES)(random, text);
 }
 
 // About 32 value lines, with or without something after the last.
@@ -133,46 +138,59 @@ fn crowded(random: &mut Random) -> Vec<u8> {
     let tasks = MOST_TASKS - 1 + random.below(4);
     let table = tables::of_tasks(random, tasks);
     let mut text = write(&table, random.pick(&ORDERS));
-    if random.one_in(3) {
-        trail(random, &mut text);
-    }
-    if random.one_in(3) {
-        odd_value(random, &mut text);
-    }
+    disturb(random, &mut text);
     text
 }
 
-// Lengths around 4,096, and lengths whose low 16 bits are a small text's.
+/// Sometimes something after the last line, and sometimes an odd value.
+pub fn disturb(random: &mut Random, text: &mut Vec<u8>) {
+    if random.one_in(3) {
+        trail(random, text);
+    }
+    if random.one_in(3) {
+        odd_value(random, text);
+    }
+}
+
 fn long(random: &mut Random) -> Vec<u8> {
     let mut text = valid(random);
+    lengthen(random, &mut text, &FILLINGS);
+    text
+}
+
+/// Lengths around 4,096, and lengths whose low 16 bits are a small text's.
+pub fn lengthen(random: &mut Random, text: &mut Vec<u8>, fillings: &[&[u8]]) {
     let length = match random.below(8) {
         0 => (1 << 16) + text.len(),
         1 => 2 * MOST_BYTES,
         _ => MOST_BYTES - 3 + random.below(7),
     };
-    let filling = random.pick(&FILLINGS);
+    let filling = random.pick(fillings);
     let missing = length - text.len();
     text.extend(filling.iter().cycle().take(missing));
     if random.one_in(4) {
-        odd_name(random, &mut text);
+        odd_name(random, text);
     }
+}
+
+fn short(random: &mut Random) -> Vec<u8> {
+    let mut text = write(&[], random.pick(&ORDERS));
+    after_names(random, &mut text);
     text
 }
 
-// A names line with little or nothing after it, or a few odd bytes.
-fn short(random: &mut Random) -> Vec<u8> {
-    let mut text = write(&[], random.pick(&ORDERS));
+/// A names line gets little or nothing after it, or a few odd bytes in its place.
+pub fn after_names(random: &mut Random, text: &mut Vec<u8>) {
     match random.below(4) {
         0 => {}
-        1 => trail(random, &mut text),
-        2 => cut(random, &mut text),
+        1 => trail(random, text),
+        2 => cut(random, text),
         _ => {
-            text = (0..random.below(8))
+            *text = (0..random.below(8))
                 .map(|_| random.pick(&ODD_BYTES))
                 .collect()
         }
     }
-    text
 }
 
 // A place between two bytes, or before the first or after the last.

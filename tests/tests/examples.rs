@@ -1,4 +1,4 @@
-//! The tables, scripts and machines of `examples/`. Every expected output is a
+//! The tables, ranges, scripts and machines of `examples/`. Every expected output is a
 //! literal.
 
 use std::fs;
@@ -18,6 +18,11 @@ fn check_table(name: &str, printed: &str) {
 
 fn check_sharper(name: &str, printed: &str) {
     let output = program::sharper_output(&example(name));
+    assert_eq!(String::from_utf8_lossy(&output), printed, "{name}");
+}
+
+fn check_ranges(name: &str, printed: &str) {
+    let output = program::quote_output(&example(name));
     assert_eq!(String::from_utf8_lossy(&output), printed, "{name}");
 }
 
@@ -71,6 +76,11 @@ fn tables_by_the_slack_test() {
 }
 
 #[test]
+fn ranges() {
+    check_ranges("early.ranges", "CORES ANSWER\n1 NONE\n2 SOME\n3 ALL\n");
+}
+
+#[test]
 fn scripts() {
     check_script(
         "calls.replay",
@@ -112,5 +122,5 @@ fn machines() {
 #[test]
 fn no_example_is_left_out() {
     let path = Path::new(env!("CARGO_MANIFEST_DIR")).join("../examples");
-    assert_eq!(fs::read_dir(path).expect("the folder").count(), 13);
+    assert_eq!(fs::read_dir(path).expect("the folder").count(), 14);
 }

@@ -11,9 +11,11 @@ use edzl_tests::oracle;
 use edzl_tests::program::path;
 
 const TABLE: &[u8] = b"DEADLINE PERIOD BUDGET\n4 4 1\n5 6 2\n8 10 6\n";
+const RANGES: &[u8] = b"LEAST_PERIOD MOST_PERIOD LEAST_BUDGET MOST_BUDGET DEADLINE\n\
+    4 8 1 2 4\n6 6 2 2 5\n8 10 5 8 8\n";
 
 // The programs, and what each prints for an empty text and for one that is too long.
-fn programs() -> [(PathBuf, Vec<u8>, Vec<u8>); 5] {
+fn programs() -> [(PathBuf, Vec<u8>, Vec<u8>); 6] {
     [
         (
             path("VERDICT", "verdict"),
@@ -22,6 +24,11 @@ fn programs() -> [(PathBuf, Vec<u8>, Vec<u8>); 5] {
         ),
         (
             path("SHARPER", "sharper"),
+            b"REFUSED 2\n".to_vec(),
+            b"REFUSED 1\n".to_vec(),
+        ),
+        (
+            path("QUOTE", "quote"),
             b"REFUSED 2\n".to_vec(),
             b"REFUSED 1\n".to_vec(),
         ),
@@ -110,6 +117,8 @@ fn pieces_make_one_text() {
         assert_eq!(sharper, oracle::sharper_output(TABLE).into_bytes());
         let reading = in_pieces(&path("READING", "test_reading"), TABLE, size);
         assert_eq!(reading, oracle::reading_output(TABLE).into_bytes());
+        let quote = in_pieces(&path("QUOTE", "quote"), RANGES, size);
+        assert_eq!(quote, b"CORES ANSWER\n1 NONE\n2 SOME\n3 ALL\n");
     }
     let script = [b"CORES 2\n", TABLE, b"CALLS\nRELEASE 1 1\nSLOT 2\n"].concat();
     let replay = in_pieces(&path("REPLAY", "replay"), &script, 5);
@@ -126,7 +135,12 @@ fn pieces_make_one_text() {
 #[test]
 fn a_long_text_in_pieces_is_too_long() {
     let text = vec![b' '; 4_097];
-    for program in [path("VERDICT", "verdict"), path("SHARPER", "sharper")] {
+    let programs = [
+        path("VERDICT", "verdict"),
+        path("SHARPER", "sharper"),
+        path("QUOTE", "quote"),
+    ];
+    for program in programs {
         assert_eq!(in_pieces(&program, &text, 512), b"REFUSED 1\n");
     }
 }
