@@ -1,7 +1,7 @@
 -- What is printed has room. `quote` cites `printed-held`: an array with room for it holds all of it.
-use Prim.Native.Nat.{ℕ, min, _+_, _≤_, _<_}
+use Prim.Native.Nat.{ℕ, min, _≤_, _<_}
 use native.Mathlib.Omega.{arith}
-use mathlib.Core.Path.{_≡_, refl}
+use mathlib.Core.Path.{refl}
 use mathlib.Core.Bool.{Bool, true, false, cond}
 use mathlib.Core.List.{List}
 use lib.ListN.{length, length-append}
@@ -15,7 +15,7 @@ use Rattle.tasks.proofs.Small.{Below}
 use Rattle.lines.specs.Printed.{room}
 use Rattle.lines.proofs.PrintedFew.{lines-few}
 use Rattle.ranges.specs.declared.table.RangedTable.{RangedTable}
-use Rattle.ranges.specs.Quote.{QuoteValues, quoted}
+use Rattle.ranges.specs.Quote.{quoted}
 use Rattle.quote.specs.Reading.{reading}
 use Rattle.quote.specs.Printed.{header, allWord, someWord, noneWord, answerWord, quoteLine, printedAfter, printed}
 use Rattle.quote.proofs.ReadLaws.{reading-below}

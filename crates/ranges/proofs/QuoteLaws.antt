@@ -1,9 +1,9 @@
 -- The quote by what was found. Others cite `refused-is`, `all-is`, `some-is` and `none-is`, the values of each answer; `Given`, what it takes for an answer,
 -- with `given` and `quoted-outcome`; `every-admitted` and `none-admitted`, from a corner to all tables within, and `stays`.
 use Prim.Native.Nat.{ℕ}
-use mathlib.Core.Path.{_≡_, refl, sym, ap, _∙_}
+use mathlib.Core.Path.{_≡_, sym, ap, _∙_}
 use mathlib.Core.Bool.{Bool, true, false}
-use Rattle.laws.proofs.CaseSplits.{by-test, not-both, clash}
+use Rattle.laws.proofs.CaseSplits.{by-test, not-both}
 use Rattle.tasks.specs.declared.table.Table.{Table}
 use Rattle.tasks.specs.declared.outcome.Outcome.{Outcome}
 use Rattle.tasks.specs.declared.outcome.Outcome.the-variants as Out

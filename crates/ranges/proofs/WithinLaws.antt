@@ -3,8 +3,7 @@
 use Prim.Native.Nat.{ℕ, _≤_, _<_}
 use native.Mathlib.Nat.{le-refl}
 use native.Mathlib.Omega.{arith}
-use mathlib.Core.Path.{_≡_, refl, sym, ap, _∙_}
-use mathlib.Core.Bool.{true}
+use mathlib.Core.Path.{_≡_, refl, ap, _∙_}
 use lib.ListN.{getD, length-replicate}
 use Rattle.laws.proofs.Replaced.{replaced-at}
 use Rattle.tasks.specs.Limits.{maxTasks}
@@ -36,15 +35,15 @@ task-corner-within : (corner : Corner) (r : RangedTask) → TaskPasses r → Tas
 unfolding cornerTask
 task-corner-within Dearest r p =
     record {
-      period-in = record { from-least = le-refl _; to-most = p .period-in-order };
-      budget-in = record { from-least = p .budget-in-order; to-most = le-refl _ };
-      same-deadline = refl;
+      period-in = record { from-least = omega arith; to-most = omega arith };
+      budget-in = record { from-least = omega arith; to-most = omega arith };
+      same-deadline = omega arith;
     }
 task-corner-within Cheapest r p =
     record {
-      period-in = record { from-least = p .period-in-order; to-most = le-refl _ };
-      budget-in = record { from-least = le-refl _; to-most = p .budget-in-order };
-      same-deadline = refl;
+      period-in = record { from-least = omega arith; to-most = omega arith };
+      budget-in = record { from-least = omega arith; to-most = omega arith };
+      same-deadline = omega arith;
     }
 
 module _ (r : RangedTable) (m : ℕ) (checks : rangesChecked r m ≡ Done) where
@@ -79,7 +78,7 @@ module _ (r : RangedTable) (m : ℕ) (checks : rangesChecked r m ≡ Done) where
               in-order = λ i j l h. l;
               each = λ i h.
                   record {
-                    same-deadline = w' .each i (in-ranges i h) .same-deadline ∙ sym (w .each i (in-ranges i h) .same-deadline);
+                    same-deadline = omega (arith, w .each i (in-ranges i h) .same-deadline, w' .each i (in-ranges i h) .same-deadline);
                     budget-no-larger = each i (in-ranges i h) .budget-no-larger;
                     period-no-smaller = each i (in-ranges i h) .period-no-smaller;
                   };
@@ -97,7 +96,7 @@ module _ (r : RangedTable) (m : ℕ) (checks : rangesChecked r m ≡ Done) where
       no-dearer (cornerTable Dearest r) t (corner-within Dearest) w
       (λ i h.
       rw (corner-entry Dearest i h)
-      (record { budget-no-larger = w .each i h .budget-in .to-most; period-no-smaller = w .each i h .period-in .from-least }))
+      (let k = w .each i h in record { budget-no-larger = omega arith; period-no-smaller = omega arith }))
 
   pub cheapest-last : (t : Table) → Within r t → Cheaper t m (cornerTable Cheapest r) m
   unfolding cornerTask
@@ -105,7 +104,7 @@ module _ (r : RangedTable) (m : ℕ) (checks : rangesChecked r m ≡ Done) where
       no-dearer t (cornerTable Cheapest r) w (corner-within Cheapest)
       (λ i h.
       rw (corner-entry Cheapest i h)
-      (record { budget-no-larger = w .each i h .budget-in .from-least; period-no-smaller = w .each i h .period-in .to-most }))
+      (let k = w .each i h in record { budget-no-larger = omega arith; period-no-smaller = omega arith }))
 
   dearest-judged : checked (cornerTable Dearest r) m ≡ Done
   unfolding cornerTable

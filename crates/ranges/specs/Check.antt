@@ -30,7 +30,7 @@ unfoldable pub taskChecked : RangedTask → (place : ℕ) → Outcome
 taskChecked r place =
     cond (not (inOrder (r .period) && inOrder (r .budget))) (Refused leastAboveMost place) (cond (not (cornersInRange r)) (Refused taskOutOfRange place) Done)
 
--- the refusal of the first task that is refused, among the n from index i on
+-- "task by task": the refusal of the first task that is refused, among the n from index i on
 unfoldable pub tasksChecked : List RangedTask → (i n : ℕ) → Outcome
 tasksChecked tasks i zero = Done
 tasksChecked tasks i (suc n) = firstRefusal (taskChecked (getD tasks i zeroRangedTask) (i + 1)) (tasksChecked tasks (i + 1) n)
@@ -39,7 +39,8 @@ tasksChecked tasks i (suc n) = firstRefusal (taskChecked (getD tasks i zeroRange
 unfoldable pub coresChecked : (m : ℕ) → Outcome
 coresChecked m = cond (coresInRange m) Done (Refused coresOutOfRange 0)
 
--- as in judging 3, 6, then task by task 16 and 5, then 7
+-- as in document 01, "Judging or starting a given table: 3, 6, then 5 task by task, then 7", where 16 is tried "for each task just before its 5"; "33 for
+-- number 3"
 unfoldable pub rangesChecked : RangedTable → (m : ℕ) → Outcome
 rangesChecked r m =
     cond (ltb maxTasks (r .count)) (Refused tooManyTasks (maxTasks + 1))

@@ -1,7 +1,7 @@
 -- Worked examples of document 02's change 9, as entries of a list of computed tests: `allTrue` of crate laws is the test, and the theorem stands in
 -- proofs/QuoteExamplesHold.antt. Ranged tasks are written least and most period, least and most budget, deadline.
 use Prim.Native.Nat.{ℕ}
-use mathlib.Core.Bool.{Bool, true, false, not, _&&_, Bool·beq}
+use mathlib.Core.Bool.{Bool, not, _&&_, Bool·beq}
 use mathlib.Core.List.{List, [], _∷_}
 use lib.ListN.{set}
 use Rattle.tasks.specs.Outcome.{isDone}

@@ -35,18 +35,18 @@ unfoldable pub cornerTable : Corner → RangedTable → Table
 cornerTable corner r =
     record { count = r .count; tasks = replaced maxTasks (λ i. cornerTask corner (getD (r .tasks) i zeroRangedTask)) (emptyTable .tasks) }
 
--- a number of a range: "within"
-pub record InRange (r : Range) (n : ℕ) : Type 0 where
+-- a number is "within" a range, either end too
+pub record Includes (r : Range) (n : ℕ) : Type 0 where
   pub from-least : r .least ≤ n
   pub to-most : n ≤ r .most
 
--- a task with its period and its budget within
+-- a task with its period and its budget within: "the deadline is fixed"
 pub record TaskWithin (r : RangedTask) (t : Task) : Type 0 where
-  pub period-in : InRange (r .period) (t .period)
-  pub budget-in : InRange (r .budget) (t .budget)
+  pub period-in : Includes (r .period) (t .period)
+  pub budget-in : Includes (r .budget) (t .budget)
   pub same-deadline : t .deadline ≡ r .deadline
 
--- a "choice in the ranges": a table of as many tasks, each within its own
+-- a "choice in the ranges": a table of as many tasks, each within the ranges of its own
 pub record Within (r : RangedTable) (t : Table) : Type 0 where
   pub same-count : t .count ≡ r .count
   pub each : (i : ℕ) → i < r .count → TaskWithin (getD (r .tasks) i zeroRangedTask) (getD (t .tasks) i zeroTask)

@@ -1,5 +1,4 @@
 -- `put_line` meets its contract: the number of cores, a space and the answer, one after the other.
-use mathlib.Core.Path.{sym}
 use borrow.Author.Needs.{needs}
 use Rattle.text.proofs.Putting.{put-then}
 use Rattle.quote.specs.Printed.{quoteLine}

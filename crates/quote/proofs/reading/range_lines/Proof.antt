@@ -1,7 +1,6 @@
 -- `range_lines` meets its contract. The invariant: what is left of the text settles the reading, with the tasks so far.
-use Prim.Native.Nat.{_+_, _<_}
 use native.Mathlib.Omega.{arith}
-use mathlib.Core.Path.{_≡_, sym, _∙_}
+use mathlib.Core.Path.{sym, _∙_}
 use borrow.Author.Needs.{needs}
 use lib.ListN.{length}
 use Rattle.tasks.specs.Limits.{maxTasks}
