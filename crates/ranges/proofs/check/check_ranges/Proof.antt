@@ -9,7 +9,6 @@ use Rattle.tasks.specs.Limits.{maxTasks}
 use Rattle.tasks.specs.Refusals.{tooManyTasks, noTask, coresOutOfRange}
 use Rattle.tasks.specs.Check.{coresInRange}
 use Rattle.tasks.specs.Outcome.{firstRefusal}
-use Rattle.tasks.specs.declared.outcome.Outcome.{Outcome}
 use Rattle.tasks.specs.declared.outcome.Outcome.the-variants.{Done, Refused}
 use Rattle.ranges.specs.declared.table.RangedTable.{RangedTable}
 use Rattle.ranges.specs.Check.{tasksChecked, coresChecked, rangesChecked}
