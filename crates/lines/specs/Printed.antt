@@ -1,5 +1,5 @@
 -- What verdict and sharper print of a table: of the window test document 01, "The table as text", and of the slack test docs/HANDBOOK.md, "Reading a
--- verdict".
+-- verdict". `linesUpTo` and `room` serve quote too.
 use Prim.Native.Nat.{ℕ, zero, suc, min}
 use mathlib.Core.Bool.{cond}
 use mathlib.Core.List.{List, [], _∷_, _++_}
@@ -43,6 +43,6 @@ printedAfter test (Refused number place) t = refusedLine number
 unfoldable pub printed : Test → List ℕ → List ℕ
 printed test text = printedAfter test (reading text .outcome) (reading text .table)
 
--- the room that an array needs for it: at most 19 bytes for the line of names, at most 8 for each of sixteen lines, and a few more
+-- the room that an array needs for it, and for what quote prints: at most 19 bytes for the line of names, at most 8 for each of sixteen lines, and a few more
 abbrev pub room : ℕ
 room = 160

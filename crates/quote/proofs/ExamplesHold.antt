@@ -1,4 +1,4 @@
--- The examples of what is printed all hold: antt computes every entry of the list.
+-- The examples of texts all hold: antt computes every entry of the list.
 use mathlib.Core.Path.{_≡_, refl}
 use mathlib.Core.Bool.{true}
 use Rattle.laws.specs.Examples.{sameNumbers, allTrue}
@@ -8,16 +8,18 @@ use Rattle.text.specs.Number.{isDigit, allDigits, leadingZero, wellFormed, deci
 use Rattle.text.specs.Output.{furtherNumbers, numbersLine, refusedLine}
 use Rattle.lines.specs.Printed.{linesUpTo}
 use Rattle.reader.specs.Value.{isValue}
+use Rattle.judge.specs.SlackExamples.{isRefusal}
 use Rattle.ranges.proofs.Computing.{computingRanges}
 use Rattle.quote.specs.Reading.{refused, isNames, fiveValues, rangedTaskOf, ended, orRefused, rangeLines, reading}
 use Rattle.quote.specs.Printed.{header, answerWord, quoteLine, printedAfter, printed}
-use Rattle.quote.specs.Examples.{rangesText, handbookValues, handbookOutput, fiveThenSixteen, sixteenBeforeFive, otherOrder, printedExamples}
+use Rattle.quote.specs.Examples.{rangesText, handbookValues, handbookOutput, fiveThenSixteen, sixteenBeforeFive, otherOrder, plainLines, secondOutOfOrder, secondOutOfRange, secondOfFour, secondUnended, readingRefused, textExamples}
 
-pub printed-examples-hold : allTrue printedExamples ≡ true
+pub text-examples-hold : allTrue textExamples ≡ true
 unfolding
-    computingRanges allTrue sameNumbers
+    computingRanges allTrue sameNumbers isRefusal
     has before after firstIs isEmpty fieldCount field sameBytes
     isDigit allDigits leadingZero wellFormed decimalFrom decimal digitsOf decimalText furtherNumbers numbersLine refusedLine linesUpTo isValue
     refused isNames fiveValues rangedTaskOf ended orRefused rangeLines reading header answerWord quoteLine printedAfter printed
-    rangesText handbookValues handbookOutput fiveThenSixteen sixteenBeforeFive otherOrder printedExamples
-printed-examples-hold = refl
+    rangesText handbookValues handbookOutput fiveThenSixteen sixteenBeforeFive otherOrder
+    plainLines secondOutOfOrder secondOutOfRange secondOfFour secondUnended readingRefused textExamples
+text-examples-hold = refl

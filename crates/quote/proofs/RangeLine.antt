@@ -19,7 +19,8 @@ use Rattle.text.proofs.FilledFromLine.{entry-is}
 use Rattle.reader.specs.Value.{isValue}
 use Rattle.ranges.specs.declared.task.RangedTask.{RangedTask}
 use Rattle.quote.specs.declared.reading.RangeLine.the-variants.{Read, Broken}
-use Rattle.quote.specs.Reading.{fiveValues, rangedTaskOf, rangeLine}
+use Rattle.quote.specs.Reading.{fiveValues, rangedTaskOf}
+use Rattle.quote.specs.Parts.{rangeLine}
 
 -- the digits of a value, and the largest of so many
 abbrev pub digits : ℕ

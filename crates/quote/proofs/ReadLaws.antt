@@ -1,5 +1,5 @@
--- What a reading of ranges is. Others cite `reading-below`, that its refusal numbers are small; and `read-quoted`: ranges that were read are quoted on every number of
--- cores, so that no line of the output stands for a refused quote.
+-- What a reading of ranges is. Others cite `reading-below`, that its refusal numbers are small; and `read-passes`, that no refusal stands against ranges that
+-- were read, on 1 to 16 cores.
 use Prim.Native.Nat.{ℕ, zero, suc, _+_, _≤_, _<_}
 use native.Mathlib.Omega.{arith}
 use mathlib.Core.Path.{_≡_, refl, _∙_}
@@ -18,11 +18,9 @@ use Rattle.tasks.proofs.Small.{Below, below-done, below-refused}
 use Rattle.ranges.specs.declared.task.RangedTask.{RangedTask}
 use Rattle.ranges.specs.declared.table.RangedTable.{RangedTable}
 use Rattle.ranges.specs.Ranges.{zeroRangedTask, emptyRanges, withRangedTask}
-use Rattle.ranges.specs.Check.{taskChecked}
-use Rattle.ranges.specs.Quote.{quoted}
+use Rattle.ranges.specs.Check.{taskChecked, rangesChecked}
 use Rattle.ranges.proofs.RangesPass.{TasksPass, passed}
 use Rattle.ranges.proofs.Small.{task-below}
-use Rattle.ranges.proofs.QuoteLaws.{quoted-outcome}
 use Rattle.quote.specs.declared.reading.RangedReading.{RangedReading}
 use Rattle.quote.specs.Reading.{refused, isNames, fiveValues, rangedTaskOf, ended, orRefused, rangeLines, reading}
 
@@ -94,5 +92,5 @@ read-well s =
 pub reading-below : (s : List ℕ) → Below 16 (reading s .outcome)
 reading-below s = read-well s .below
 
-pub read-quoted : (s : List ℕ) (m : ℕ) → reading s .outcome ≡ Done → 1 ≤ m → m ≤ maxCores → quoted (reading s .table) m .outcome ≡ Done
-read-quoted s m e some fits = quoted-outcome (reading s .table) m ∙ passed (reading s .table) m (read-well s .tasks-pass e) some fits
+pub read-passes : (s : List ℕ) (m : ℕ) → reading s .outcome ≡ Done → 1 ≤ m → m ≤ maxCores → rangesChecked (reading s .table) m ≡ Done
+read-passes s m e some fits = passed (reading s .table) m (read-well s .tasks-pass e) some fits

@@ -1,11 +1,15 @@
 -- Texts and what is printed for them, computed: the theorem stands in proofs/ExamplesHold.antt.
-use Prim.Native.Nat.{ℕ}
+use Prim.Native.Nat.{ℕ, zero, suc}
 use mathlib.Core.Bool.{Bool}
 use mathlib.Core.List.{List, [], _∷_, _++_}
 use Rattle.laws.specs.Examples.{sameNumbers}
-use Rattle.text.specs.Lines.{lineEnd}
+use lib.ListN.{replicate}
+use Rattle.text.specs.Lines.{lineEnd, space}
 use Rattle.text.specs.Output.{refusedLine}
+use Rattle.tasks.specs.Outcome.{isDone}
+use Rattle.judge.specs.SlackExamples.{isRefusal}
 use Rattle.quote.specs.Names.{rangeNames}
+use Rattle.quote.specs.Reading.{reading}
 use Rattle.quote.specs.Printed.{printed}
 
 -- these value lines after the names line
@@ -51,15 +55,60 @@ sixteenBeforeFive = 53 ∷ 32 ∷ 52 ∷ 32 ∷ 54 ∷ 32 ∷ 48 ∷ 32 ∷ 53 �
 --     MOST_PERIOD LEAST_PERIOD LEAST_BUDGET MOST_BUDGET DEADLINE
 unfoldable pub otherOrder : List ℕ
 otherOrder =
-    77 ∷ 79 ∷ 83 ∷ 84 ∷ 95 ∷ 80 ∷ 69 ∷ 82 ∷ 73 ∷ 79 ∷ 68 ∷ 32 ∷ 76 ∷ 69 ∷ 65 ∷ 83 ∷ 84 ∷ 95 ∷ 80 ∷ 69 ∷ 82 ∷ 73 ∷ 79 ∷ 68 ∷ 32 ∷ 76 ∷ 69 ∷ 65 ∷ 83 ∷ 84 ∷ 95 ∷ 66 ∷ 85 ∷ 68 ∷ 71 ∷ 69 ∷ 84 ∷ 32 ∷ 77 ∷ 79 ∷ 83 ∷ 84 ∷ 95 ∷ 66 ∷ 85 ∷ 68 ∷ 71 ∷ 69 ∷ 84 ∷ 32 ∷ 68 ∷ 69 ∷ 65 ∷ 68 ∷ 76 ∷ 73 ∷ 78 ∷ 69 ∷ 10
+    77 ∷ 79 ∷ 83 ∷ 84 ∷ 95 ∷ 80 ∷ 69 ∷ 82 ∷ 73 ∷ 79 ∷ 68 ∷ 32
+    ∷ 76 ∷ 69 ∷ 65 ∷ 83 ∷ 84 ∷ 95 ∷ 80 ∷ 69 ∷ 82 ∷ 73 ∷ 79 ∷ 68 ∷ 32
+    ∷ 76 ∷ 69 ∷ 65 ∷ 83 ∷ 84 ∷ 95 ∷ 66 ∷ 85 ∷ 68 ∷ 71 ∷ 69 ∷ 84 ∷ 32
+    ∷ 77 ∷ 79 ∷ 83 ∷ 84 ∷ 95 ∷ 66 ∷ 85 ∷ 68 ∷ 71 ∷ 69 ∷ 84 ∷ 32
+    ∷ 68 ∷ 69 ∷ 65 ∷ 68 ∷ 76 ∷ 73 ∷ 78 ∷ 69 ∷ 10
     ∷ handbookValues
 
--- what is printed for each
-unfoldable pub printedExamples : List Bool
-printedExamples =
+-- so many value lines
+--     1 1 1 1 1
+unfoldable pub plainLines : (n : ℕ) → List ℕ
+plainLines zero = []
+plainLines (suc n) = 49 ∷ 32 ∷ 49 ∷ 32 ∷ 49 ∷ 32 ∷ 49 ∷ 32 ∷ 49 ∷ lineEnd ∷ plainLines n
+
+-- one such line, and then
+--     2 1 1 1 1
+unfoldable pub secondOutOfOrder : List ℕ
+secondOutOfOrder = plainLines 1 ++ 50 ∷ 32 ∷ 49 ∷ 32 ∷ 49 ∷ 32 ∷ 49 ∷ 32 ∷ 49 ∷ lineEnd ∷ []
+
+--     1 1 1 2 1
+unfoldable pub secondOutOfRange : List ℕ
+secondOutOfRange = plainLines 1 ++ 49 ∷ 32 ∷ 49 ∷ 32 ∷ 49 ∷ 32 ∷ 50 ∷ 32 ∷ 49 ∷ lineEnd ∷ []
+
+--     1 1 1 1
+unfoldable pub secondOfFour : List ℕ
+secondOfFour = plainLines 1 ++ 49 ∷ 32 ∷ 49 ∷ 32 ∷ 49 ∷ 32 ∷ 49 ∷ lineEnd ∷ []
+
+--     1 1 1 1 1
+-- without its byte 10
+unfoldable pub secondUnended : List ℕ
+secondUnended = plainLines 1 ++ 49 ∷ 32 ∷ 49 ∷ 32 ∷ 49 ∷ 32 ∷ 49 ∷ 32 ∷ 49 ∷ []
+
+-- reading a text is refused with this number and place
+unfoldable pub readingRefused : List ℕ → (number place : ℕ) → Bool
+readingRefused text number place = isRefusal (reading text .outcome) number place
+
+-- what is printed, and each refusal of a reading with its place
+unfoldable pub textExamples : List Bool
+textExamples =
     sameNumbers (printed (rangesText handbookValues)) handbookOutput ∷
     sameNumbers (printed (rangesText fiveThenSixteen)) (refusedLine 5) ∷
     sameNumbers (printed (rangesText sixteenBeforeFive)) (refusedLine 16) ∷
     sameNumbers (printed otherOrder) (refusedLine 2) ∷
-    sameNumbers (printed (rangesText [])) (refusedLine 6) ∷
+    -- 4,097 spaces, and no more than 4,096
+    readingRefused (replicate 4_097 space) 1 0 ∷
+    readingRefused (replicate 4_096 space) 2 0 ∷
+    -- an empty text, and a names line that is not ended
+    readingRefused [] 2 0 ∷
+    readingRefused rangeNames 2 0 ∷
+    -- 32 value lines, and one byte more
+    isDone (reading (rangesText (plainLines 32)) .outcome) ∷
+    readingRefused (rangesText (plainLines 32 ++ space ∷ [])) 3 33 ∷
+    readingRefused (rangesText secondOfFour) 4 2 ∷
+    readingRefused (rangesText secondUnended) 4 2 ∷
+    readingRefused (rangesText secondOutOfOrder) 16 2 ∷
+    readingRefused (rangesText secondOutOfRange) 5 2 ∷
+    readingRefused (rangesText []) 6 0 ∷
     []

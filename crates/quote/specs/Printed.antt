@@ -2,7 +2,7 @@
 use Prim.Native.Nat.{ℕ, min}
 use mathlib.Core.Bool.{cond}
 use mathlib.Core.List.{List, [], _∷_, _++_}
-use Rattle.text.specs.Lines.{space}
+use Rattle.text.specs.Lines.{lineEnd, space}
 use Rattle.text.specs.Number.{decimalText}
 use Rattle.text.specs.Output.{refusedLine}
 use Rattle.tasks.specs.Limits.{maxCores}
@@ -15,19 +15,19 @@ use Rattle.quote.specs.Reading.{reading}
 
 -- "the line `CORES ANSWER`", with its byte 10
 unfoldable pub header : List ℕ
-header = 67 ∷ 79 ∷ 82 ∷ 69 ∷ 83 ∷ 32 ∷ 65 ∷ 78 ∷ 83 ∷ 87 ∷ 69 ∷ 82 ∷ 10 ∷ []
+header = 67 ∷ 79 ∷ 82 ∷ 69 ∷ 83 ∷ 32 ∷ 65 ∷ 78 ∷ 83 ∷ 87 ∷ 69 ∷ 82 ∷ lineEnd ∷ []
 
 -- "ALL" and byte 10
 abbrev pub allWord : List ℕ
-allWord = 65 ∷ 76 ∷ 76 ∷ 10 ∷ []
+allWord = 65 ∷ 76 ∷ 76 ∷ lineEnd ∷ []
 
 -- "SOME" and byte 10
 abbrev pub someWord : List ℕ
-someWord = 83 ∷ 79 ∷ 77 ∷ 69 ∷ 10 ∷ []
+someWord = 83 ∷ 79 ∷ 77 ∷ 69 ∷ lineEnd ∷ []
 
 -- "NONE" and byte 10
 abbrev pub noneWord : List ℕ
-noneWord = 78 ∷ 79 ∷ 78 ∷ 69 ∷ 10 ∷ []
+noneWord = 78 ∷ 79 ∷ 78 ∷ 69 ∷ lineEnd ∷ []
 
 -- "ALL, SOME or NONE"
 unfoldable pub answerWord : QuoteValues → List ℕ

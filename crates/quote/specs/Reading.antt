@@ -17,7 +17,6 @@ use Rattle.ranges.specs.declared.table.RangedTable.{RangedTable}
 use Rattle.ranges.specs.Ranges.{emptyRanges, withRangedTask}
 use Rattle.ranges.specs.Check.{taskChecked}
 use Rattle.quote.specs.declared.reading.RangedReading.{RangedReading}
-use Rattle.quote.specs.declared.reading.RangeLine as Range-line
 use Rattle.quote.specs.Names.{rangeNames}
 
 -- a refused reading hands back a ranged table of zero tasks with all its numbers 0
@@ -41,12 +40,6 @@ rangedTaskOf l =
       budget = record { least = decimal (field 2 l); most = decimal (field 3 l) };
       deadline = decimal (field 4 l);
     }
-
--- for the contract of a private function: the ranged task of the value line that a text begins with, and how many bytes the line has with its byte 10
-unfoldable pub rangeLine : List ℕ → Range-line.RangeLine
-rangeLine s =
-    let l = before lineEnd s in
-    cond (firstIs fiveValues s) (Range-line.the-variants.Read (rangedTaskOf l) (length l + 1)) Range-line.the-variants.Broken
 
 -- what reading gives where the ranges r are read and nothing follows: number 6, or the ranges
 unfoldable pub ended : RangedTable → RangedReading

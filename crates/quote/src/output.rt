@@ -13,7 +13,7 @@ ghost use Rattle.lines.specs.Printed.{linesUpTo};
 ghost use Rattle.ranges.specs.Quote.{quoteValuesOf};
 ghost use Rattle.quote.specs.Printed.{header, answerWord, quoteLine};
 
-// The word of an answer and its byte 10. A refused quote says of no table that it is admitted; of ranges that were read none comes (proofs/ReadLaws.antt).
+// The word of an answer and its byte 10. A refused quote says of no table that it is admitted; of ranges that were read none comes (proofs/PrintedTrue.antt).
 fn put_answer(output: &mut [u8], used: usize, quote: Quote) -> usize
     ensures { λ r. ⌜ Put (now (output .entry)) used (answerWord (quoteValuesOf quote)) (now (output .exit)) r ⌝ }
 {

@@ -16,7 +16,8 @@ ghost use Prim.Native.Nat.{_<_};
 ghost use mathlib.Core.Path.{_≡_};
 ghost use Rattle.tasks.specs.Limits.{maxTasks};
 ghost use Rattle.ranges.specs.Ranges.{emptyRanges, withRangedTask};
-ghost use Rattle.quote.specs.Reading.{refused, rangeLine, rangeLines, reading};
+ghost use Rattle.quote.specs.Reading.{refused, rangeLines, reading};
+ghost use Rattle.quote.specs.Parts.{rangeLine};
 
 // The longest value, in digits, and the largest of so many.
 const VALUE_DIGITS: usize = 7;

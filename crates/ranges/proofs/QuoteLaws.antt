@@ -1,5 +1,5 @@
 -- The quote by what was found. Others cite `refused-is`, `all-is`, `some-is` and `none-is`, the values of each answer; `Given`, what it takes for an answer,
--- with `given` and `quoted-outcome`; `every-admitted` and `none-admitted`, from a corner to all tables within, and `stays`.
+-- with `given` and `quoted-outcome`; `answer-of`, that ranges which pass have one; `every-admitted` and `none-admitted`, from a corner to all tables within, and `stays`.
 use Prim.Native.Nat.{ℕ}
 use mathlib.Core.Path.{_≡_, sym, ap, _∙_}
 use mathlib.Core.Bool.{Bool, true, false}
@@ -14,6 +14,7 @@ use Rattle.judge.specs.StaysAdmitted.{StaysAdmitted}
 use Rattle.judge.proofs.StaysAdmitted.{each-stays-admitted}
 use Rattle.ranges.specs.declared.corner.Corner.the-variants.{Dearest, Cheapest}
 use Rattle.ranges.specs.declared.table.RangedTable.{RangedTable}
+use Rattle.ranges.specs.declared.Quote.{Quote}
 use Rattle.ranges.specs.declared.Quote.the-variants.{All, Some, None, Refused}
 use Rattle.ranges.specs.Ranges.{cornerTable, Within}
 use Rattle.ranges.specs.Check.{rangesChecked}
@@ -82,3 +83,17 @@ module _ (r : RangedTable) (m : ℕ) where
   all-is checks e =
       values-are true true
       (record { checks = checks; at-dearest = e; at-cheapest = every-admitted checks (cornerTable Cheapest r) (corner-within r m checks Cheapest) e })
+
+  -- there is an answer with these values
+  pub record Answer : Type 0 where
+    pub answer : Quote
+    pub values : quoteValuesOf answer ≡ quoted r m
+
+  pub answer-of : rangesChecked r m ≡ Out.Done → Answer
+  answer-of checks =
+      by-test (judged (cornerTable Dearest r) m .admits)
+      (λ yes. record { answer = All; values = all-is checks yes })
+      (λ no.
+      by-test (judged (cornerTable Cheapest r) m .admits)
+      (λ any. record { answer = Some; values = some-is (record { checks = checks; at-dearest = no; at-cheapest = any }) })
+      (λ none. record { answer = None; values = none-is (record { checks = checks; at-dearest = no; at-cheapest = none }) }))

@@ -15,7 +15,7 @@ use Rattle.ranges.specs.declared.Quote.the-variants.{All, Some, None, Re
 use Rattle.ranges.specs.Ranges.{cornerTable, Within}
 use Rattle.ranges.specs.Check.{rangesChecked}
 use Rattle.ranges.specs.Quote.{QuoteValues, refusedQuote, quoteValuesOf}
-use Rattle.ranges.specs.Promise.{HasVerdict, One, Says, QuotePromise, OneValueNeverSome}
+use Rattle.ranges.specs.Promise.{HasVerdict, AtLeastOne, Says, QuotePromise, OneValueNeverSome}
 use Rattle.ranges.proofs.WithinLaws.{corner-within, no-dearer, within-judged}
 use Rattle.ranges.proofs.QuoteLaws.{stays, given, quoted-outcome, every-admitted, none-admitted}
 
@@ -26,7 +26,7 @@ module _ (r : RangedTable) (m : ℕ) (checks : rangesChecked r m ≡ Out.Done) w
   has-verdict : (t : Table) (admits : Bool) → Within r t → judged t m .admits ≡ admits → HasVerdict t m admits
   has-verdict t admits w e = record { is-judged = within-outcome t w; verdict = e }
 
-  at-corner : (corner : Corner) (admits : Bool) → judged (cornerTable corner r) m .admits ≡ admits → One r m admits
+  at-corner : (corner : Corner) (admits : Bool) → judged (cornerTable corner r) m .admits ≡ admits → AtLeastOne r m admits
   at-corner corner admits e =
       let w = corner-within r m checks corner in
       record { choice = cornerTable corner r; within = w; has = has-verdict (cornerTable corner r) admits w e }
@@ -35,7 +35,10 @@ pub quote-true : QuotePromise
 unfolding QuotePromise Says quoteValuesOf refusedQuote
 quote-true All r m e =
     let g = given r m true true e in
-    record { each = λ t w. has-verdict r m (g .checks) t true w (every-admitted r m (g .checks) t w (g .at-dearest)) }
+    record {
+      each = λ t w. has-verdict r m (g .checks) t true w (every-admitted r m (g .checks) t w (g .at-dearest));
+      there-is = at-corner r m (g .checks) Dearest true (g .at-dearest);
+    }
 quote-true Some r m e =
     let g = given r m false true e in
     record {
@@ -45,7 +48,10 @@ quote-true Some r m e =
     }
 quote-true None r m e =
     let g = given r m false false e in
-    record { each = λ t w. has-verdict r m (g .checks) t false w (none-admitted r m (g .checks) t w (g .at-cheapest)) }
+    record {
+      each = λ t w. has-verdict r m (g .checks) t false w (none-admitted r m (g .checks) t w (g .at-cheapest));
+      there-is = at-corner r m (g .checks) Cheapest false (g .at-cheapest);
+    }
 quote-true (Refused number place) r m e = sym (quoted-outcome r m) ∙ sym (ap (λ (v : QuoteValues). v .outcome) e)
 
 -- two tables within ranges of one value each have the same numbers, so that the one costs no more than the other

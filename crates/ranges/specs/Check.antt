@@ -25,7 +25,7 @@ inOrder r = leb (r .least) (r .most)
 unfoldable pub cornersInRange : RangedTask → Bool
 cornersInRange r = inRange (cornerTask Dearest r) && inRange (cornerTask Cheapest r)
 
--- "number 16, tried for each task just before its 5 and carrying the task"
+-- "number 16, tried for each task just before its 5 and carrying the task", for a least of the period or of the budget
 unfoldable pub taskChecked : RangedTask → (place : ℕ) → Outcome
 taskChecked r place =
     cond (not (inOrder (r .period) && inOrder (r .budget))) (Refused leastAboveMost place) (cond (not (cornersInRange r)) (Refused taskOutOfRange place) Done)

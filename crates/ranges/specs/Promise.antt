@@ -19,21 +19,22 @@ pub record HasVerdict (t : Table) (m : ℕ) (admits : Bool) : Type 0 where
   pub is-judged : judged t m .outcome ≡ Out.Done
   pub verdict : judged t m .admits ≡ admits
 
--- every table within the ranges has this verdict
-pub record Every (r : RangedTable) (m : ℕ) (admits : Bool) : Type 0 where
-  pub each : (t : Table) → Within r t → HasVerdict t m admits
-
--- one has it
-pub record One (r : RangedTable) (m : ℕ) (admits : Bool) : Type 0 where
+-- a table within the ranges has this verdict
+pub record AtLeastOne (r : RangedTable) (m : ℕ) (admits : Bool) : Type 0 where
   pub choice : Table
   pub within : Within r choice
   pub has : HasVerdict choice m admits
 
+-- every table within has it, and there is one
+pub record Every (r : RangedTable) (m : ℕ) (admits : Bool) : Type 0 where
+  pub each : (t : Table) → Within r t → HasVerdict t m admits
+  pub there-is : AtLeastOne r m admits
+
 -- "for some and not others", where each is judged
 pub record SomeNotOthers (r : RangedTable) (m : ℕ) : Type 0 where
   pub each-judged : (t : Table) → Within r t → judged t m .outcome ≡ Out.Done
-  pub some : One r m true
-  pub others : One r m false
+  pub some : AtLeastOne r m true
+  pub others : AtLeastOne r m false
 
 -- what each answer says: "admitted by the window test for all values within, for none, or for some and not others", or the refusal
 unfoldable pub Says : Quote → RangedTable → (m : ℕ) → Type 0

@@ -11,7 +11,7 @@ use Rattle.ranges.specs.declared.Quote.the-variants.{All, Some, None, Re
 use Rattle.ranges.specs.Ranges.{cornerTable}
 use Rattle.ranges.specs.Check.{rangesChecked}
 
--- what a quote says: whether it was given, whether the window test admits every table within the ranges, and whether it admits one or more
+-- what a quote says: whether it was given, and if it was, whether the window test admits every table within the ranges and whether it admits any
 pub record QuoteValues : Type 0 where
   pub outcome : Outcome
   pub every : Bool
@@ -29,8 +29,7 @@ quoteValuesOf Some = record { outcome = Out.Done; every = false; any = true }
 quoteValuesOf None = record { outcome = Out.Done; every = false; any = false }
 quoteValuesOf (Refused number place) = refusedQuote number place
 
--- ranges on m cores, after the refusals were tried: the window test admits every table within where it admits the dearest, and one where it admits the
--- cheapest
+-- ranges on m cores, after the refusals were tried: by the window test's verdicts at the dearest corner and at the cheapest
 unfoldable pub quotedAfter : Outcome → RangedTable → (m : ℕ) → QuoteValues
 quotedAfter Out.Done r m =
     record { outcome = Out.Done; every = judged (cornerTable Dearest r) m .admits; any = judged (cornerTable Cheapest r) m .admits }

@@ -5,7 +5,7 @@ use Rattle.ranges.specs.declared.task.RangedTask.{RangedTask}
 use Rattle.ranges.specs.declared.table.RangedTable.{RangedTable}
 use Rattle.ranges.specs.Ranges.{emptyRanges, withRangedTask}
 
--- a ranged task by its five numbers, in the order of the names line of docs/HANDBOOK.md, "Quotes over ranges"
+-- a ranged task by its five numbers
 unfoldable pub ranged : (least-period most-period least-budget most-budget deadline : ℕ) → RangedTask
 ranged least-period most-period least-budget most-budget deadline =
     record {

@@ -11,7 +11,7 @@ use lib.ListN.{length}
 use Rattle.laws.proofs.CaseSplits.{by-test, by-cond, not-both, clash}
 use Rattle.laws.proofs.Booleans.{and-left, and-right}
 use Rattle.laws.proofs.Parts.{from, past, from-drop}
-use Rattle.text.specs.Lines.{lineEnd, space, has, before, after, field, fieldCount}
+use Rattle.text.specs.Lines.{lineEnd, space, has, before, after, field, firstIs, fieldCount}
 use Rattle.text.proofs.Split.{here, gone, hasnt-of, cut}
 use Rattle.text.proofs.FieldLaws.{count-one}
 use Rattle.text.proofs.CutFields.{FirstField, cut-field, more-fields, last-field}
@@ -67,7 +67,7 @@ module _ (s : List ℕ) where
     named : eachNamed cutColumns ≡ true
 
   found : beginsWithNames s ≡ true → Found
-  unfolding beginsWithNames threeNames
+  unfolding beginsWithNames firstIs threeNames
   found t =
       let count = eqb (fieldCount line) 3 in
       let each = eachNamed (columnsOf line) in
@@ -137,7 +137,7 @@ module _ (s : List ℕ) where
             ended-cut = is-ended three-cut ∙ rw (← last-is) (cut lineEnd left (length h) (ap length e₂) j .is)
 
             is : beginsWithNames s ≡ true
-            unfolding beginsWithNames threeNames
+            unfolding beginsWithNames firstIs threeNames
             is = rw (ended-cut, eq-eqb (fieldCount line) 3 (three three-cut), columns-are three-cut, ← columns-cut) x
 
             size : length line + 1 ≡ length f + 1 + length g + 1 + length h + 1
@@ -163,7 +163,7 @@ pub record NamesRead (s : List ℕ) (k : Columns) (n : ℕ) : Type 0 where
   pub rest : from s n ≡ after lineEnd s
 
 ended : (s : List ℕ) → beginsWithNames s ≡ true → has lineEnd s ≡ true
-unfolding beginsWithNames
+unfolding beginsWithNames firstIs
 ended s t = and-left (has lineEnd s) (threeNames (before lineEnd s)) t
 
 pub names-read : (s : List ℕ) (k : Columns) (n : ℕ) → namesLine s ≡ Read k n → NamesRead s k n

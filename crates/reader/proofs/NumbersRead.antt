@@ -10,7 +10,7 @@ use lib.Dec.{eqb}
 use lib.ListN.{length}
 use Rattle.laws.proofs.Booleans.{and-right}
 use Rattle.laws.proofs.Parts.{from}
-use Rattle.text.specs.Lines.{lineEnd, has, before, fieldCount}
+use Rattle.text.specs.Lines.{lineEnd, has, before, firstIs, fieldCount}
 use Rattle.tasks.specs.declared.task.Task.{Task}
 use Rattle.tasks.specs.declared.table.Table.{Table}
 use Rattle.tasks.specs.declared.outcome.Outcome.the-variants.{Done}
@@ -50,7 +50,7 @@ module _ (s : List ℕ) (r : Counted) (ts : List Task) where
 
 -- the columns of a names line that was read
 pub named : (s : List ℕ) (k : Columns) (n : ℕ) → namesLine s ≡ Names.Read k n → eachNamed k ≡ true
-unfolding beginsWithNames threeNames
+unfolding beginsWithNames firstIs threeNames
 named s k n e =
     let m = names-read s k n e in
     let l = before lineEnd s in

@@ -12,7 +12,7 @@ use lib.ListN.{length, getD, set}
 use Rattle.laws.proofs.CaseSplits.{by-test, not-both}
 use Rattle.laws.proofs.Booleans.{and-left, and-right}
 use Rattle.laws.proofs.Parts.{from, past, from-drop, from-length}
-use Rattle.text.specs.Lines.{lineEnd, space, has, before, after, fieldCount, field}
+use Rattle.text.specs.Lines.{lineEnd, space, has, before, after, fieldCount, field, firstIs}
 use Rattle.text.specs.Number.{isDigit, decimal, numberUpTo}
 use Rattle.text.specs.Fields.{eachNumber, areNumbers}
 use Rattle.text.specs.declared.number.Before.the-variants.{Read}
@@ -104,7 +104,7 @@ tests :
     (s : List ℕ)
     → beginsWithValues s
     ≡ (valueUpTo space s && (valueUpTo space (after space s) && valueUpTo lineEnd (after space (after space s))))
-unfolding beginsWithValues numbersOn
+unfolding beginsWithValues firstIs numbersOn
 tests s =
     rw (three-values (before lineEnd s), are-numbers 7 largest 2 (before lineEnd s), first-value 1 s, first-value 0 (after space s), value-number)
 
@@ -207,7 +207,7 @@ module _ (s vs : List ℕ) (n : ℕ) (a : Answer s vs n) where
   pub line-read :
       (c : Columns) → eachNamed c ≡ true → (n ≡ 0 → ⊥) → (k : Task)
       → k ≡ record { period = getD vs (c .period) 0; budget = getD vs (c .budget) 0; deadline = getD vs (c .deadline) 0 } → LineRead c s k n
-  unfolding beginsWithValues taskOf
+  unfolding beginsWithValues firstIs taskOf
   line-read c named some k e =
       by-test (beginsWithValues s)
       (λ t.

@@ -3,7 +3,7 @@ use Prim.Native.Nat.{ℕ}
 use mathlib.Core.List.{List, [], _∷_}
 use mathlib.Core.Bool.{Bool, cond, _&&_}
 use lib.Dec.{eqb, ltb}
-use Rattle.text.specs.Lines.{lineEnd, has, before, field, fieldCount}
+use Rattle.text.specs.Lines.{firstIs, field, fieldCount}
 use Rattle.text.specs.Words.{sameBytes}
 use Rattle.reader.specs.declared.names.Columns.{Columns}
 
@@ -46,4 +46,4 @@ threeNames l = eqb (fieldCount l) 3 && eachNamed (columnsOf l)
 
 -- whether a text begins with a names line, which is ended: else "2. The names line is missing, is not ended, or is not the three names once each."
 unfoldable pub beginsWithNames : List ℕ → Bool
-beginsWithNames s = has lineEnd s && threeNames (before lineEnd s)
+beginsWithNames s = firstIs threeNames s

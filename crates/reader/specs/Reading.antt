@@ -13,7 +13,7 @@ use Rattle.tasks.specs.Task.{inRange}
 use Rattle.tasks.specs.Table.{emptyTable, withTask}
 use Rattle.reader.specs.declared.names.Columns.{Columns}
 use Rattle.reader.specs.declared.Reading.{Reading}
-use Rattle.text.specs.Lines.{lineEnd, has, before, after, isEmpty, field, fieldCount}
+use Rattle.text.specs.Lines.{lineEnd, before, after, firstIs, isEmpty, field, fieldCount}
 use Rattle.text.specs.Number.{decimal}
 use Rattle.reader.specs.Value.{isValue}
 use Rattle.reader.specs.Names.{columnsOf, beginsWithNames}
@@ -28,7 +28,7 @@ threeValues l = eqb (fieldCount l) 3 && isValue (field 0 l) && isValue (field 1 
 
 -- whether a text begins with a value line, which is ended: else "4. A value line is not three well-formed values ended by byte 10."
 unfoldable pub beginsWithValues : List ℕ → Bool
-beginsWithValues s = has lineEnd s && threeValues (before lineEnd s)
+beginsWithValues s = firstIs threeValues s
 
 -- the task of a line of values: "one line of values per task in that order", the order of the names
 unfoldable pub taskOf : Columns → List ℕ → Task

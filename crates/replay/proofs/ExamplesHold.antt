@@ -1,6 +1,6 @@
 -- The example holds: antt computes what is printed for it.
 use mathlib.Core.Path.{_≡_, refl}
-use Rattle.text.specs.Lines.{has, before, after, inFirst, lines, unended, fieldCount, field, isEmpty}
+use Rattle.text.specs.Lines.{has, before, after, firstIs, inFirst, lines, unended, fieldCount, field, isEmpty}
 use Rattle.text.specs.Words.{sameBytes, beginsWith}
 use Rattle.text.specs.Number.{isDigit, allDigits, leadingZero, wellFormed, decimalFrom, decimal, isNumber, numberOf, numberAfter, digitsOf, decimalText}
 use Rattle.text.specs.Fields.{eachNumber, areNumbers}
@@ -20,7 +20,7 @@ unfolding
     has before after inFirst lines unended fieldCount field sameBytes beginsWith
     isDigit allDigits leadingZero wellFormed decimalFrom decimal isNumber numberOf numberAfter digitsOf decimalText
     eachNumber areNumbers furtherNumbers numbersLine refusedLine
-    isValue columnIn columnsIn eachNamed columnsOf threeNames beginsWithNames
+    firstIs isValue columnIn columnsIn eachNamed columnsOf threeNames beginsWithNames
     refused threeValues beginsWithValues taskOf ended isEmpty valueLines reading computing
     releaseOf joinOf callWith callOf callsFrom callsStart
     badLine runnerCores reportLine acceptedLine outcomeLine answerLine onCall answerLines

@@ -1,4 +1,4 @@
--- What an outcome says: document 01, "The slot machine".
+-- What an outcome says: document 01, "The slot machine" and "Why a call is not carried out".
 use mathlib.Core.Bool.{Bool, true, false}
 use Rattle.tasks.specs.declared.outcome.Outcome.{Outcome}
 use Rattle.tasks.specs.declared.outcome.Outcome.the-variants.{Done, Refused}

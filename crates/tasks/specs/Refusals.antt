@@ -9,7 +9,7 @@ unsoundMachine = 0
 abbrev pub textTooLong : ℕ
 textTooLong = 1
 
--- "2. The names line is missing, is not ended, or is not the three names once each."
+-- "2. The names line is missing, is not ended, or is not the three names once each."; of ranges, not the five in their order
 abbrev pub badNamesLine : ℕ
 badNamesLine = 2
 
@@ -17,7 +17,7 @@ badNamesLine = 2
 abbrev pub tooManyTasks : ℕ
 tooManyTasks = 3
 
--- "4. A value line is not three well-formed values ended by byte 10."
+-- "4. A value line is not three well-formed values ended by byte 10."; of ranges five
 abbrev pub badValueLine : ℕ
 badValueLine = 4
 
