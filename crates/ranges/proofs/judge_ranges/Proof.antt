@@ -58,7 +58,7 @@ both : {any : Bool} (c : tie.After-admits2) → c .admits2 .result ≡ any →
     let k = c .before .before in
     let a = k .before .before .before .before .before .before .before .before .args in
     Given (a .table) (a .cores) false any
-both c told =
+both {any} c told =
     let j = c .before in
     let k = j .before in
     record {
