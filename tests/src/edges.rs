@@ -1,19 +1,27 @@
 //! One field of a sound machine changed to a value at the edge of a clause of
-//! number 0 (document 01, "Why a call is not carried out", with changes 3 and 4 of
+//! number 0 (document 01, "Why a call is not carried out", with changes 3, 4 and 10 of
 //! document 02), on either side of it.
 
+use crate::holdable::{holdable, largest};
 use crate::probe::{Entry, HandMade};
 use crate::random::Random;
-use crate::tasks::{LONGEST_PERIOD, MOST_CORES, MOST_TASKS};
+use crate::scripts::light;
+use crate::tasks::{LONGEST_PERIOD, MOST_CORES, MOST_TASKS, Task};
 
 use Field::{Budget, Core, Deadline, Gap, Left, Owed, Period};
 use Sharers::{Ends, Neighbours, OnePastTheCount, Three, Two};
 use Whose::{Any, Closed, Open};
 
 /// Every change there is: the fields of a task, OPEN, the count, m, a core recorded
-/// twice, and an entry past the count.
-pub const CHANGES: usize =
-    EDGES.len() + FLIPS.len() + COUNTS.len() + CORES.len() + SHARED.len() + PAST;
+/// twice, the held task, and an entry past the count.
+pub const CHANGES: usize = EDGES.len()
+    + FLIPS.len()
+    + COUNTS.len()
+    + CORES.len()
+    + SHARED.len()
+    + HELD.len()
+    + FULL
+    + PAST;
 
 // The tasks of which one gets the change.
 #[derive(Clone, Copy)]
@@ -134,6 +142,36 @@ const CORES: [u32; 5] = [0, 1, MOST_CORES, MOST_CORES + 1, u32::MAX];
 // One core is recorded for no two tasks of the table.
 const SHARED: [Sharers; 6] = [Two, Two, Neighbours, Ends, Three, OnePastTheCount];
 
+// What is held, from a task that the machine could hold.
+type Held = fn(&HandMade, Task) -> Task;
+
+const HELD: [Held; 18] = [
+    |_, task| task,
+    // 1 ≤ C ≤ D ≤ T ≤ 1,000,000.
+    |_, task| Task { budget: 0, ..task },
+    |_, task| Task::new(LONGEST_PERIOD, 0, task.deadline),
+    |_, task| Task::new(task.period, task.deadline, task.deadline),
+    |_, task| Task::new(task.period, task.deadline + 1, task.deadline),
+    |_, task| Task::new(task.period, u32::MAX, task.deadline),
+    |_, task| Task::new(task.period, task.budget, task.budget - 1),
+    |_, task| Task::new(task.period, task.budget, task.period),
+    |_, task| Task::new(task.period, task.budget, task.period + 1),
+    |_, task| Task::new(task.period, task.budget, u32::MAX),
+    |_, task| Task::new(task.deadline - 1, task.budget, task.deadline),
+    |_, task| Task::new(LONGEST_PERIOD, task.budget, task.deadline),
+    |_, task| Task::new(LONGEST_PERIOD + 1, task.budget, task.deadline),
+    |_, task| Task::new(u32::MAX, task.budget, task.deadline),
+    // The largest budget that is admitted, and one slot more.
+    |machine, task| largest(machine, task, 0),
+    |machine, task| largest(machine, task, 1),
+    |machine, task| largest(machine, Task::new(9, 1, 8), task.budget % 2),
+    // A task of the table.
+    |machine, _| machine.entries[0].task,
+];
+
+// Changes of the table to 32 tasks, beside which no task is held.
+const FULL: usize = 2;
+
 // Changes past the count, each to any entry there.
 const PAST: usize = 3;
 
@@ -146,6 +184,8 @@ pub fn change(random: &mut Random, machine: &mut HandMade, which: usize) -> u32 
         COUNTS.len(),
         CORES.len(),
         SHARED.len(),
+        HELD.len(),
+        FULL,
     ];
     let mut which = which;
     for (kind, kinds) in kinds.into_iter().enumerate() {
@@ -169,8 +209,27 @@ fn change_of_kind(random: &mut Random, machine: &mut HandMade, kind: usize, whic
             machine.cores = CORES[which];
             0
         }
-        _ => share(random, machine, SHARED[which]),
+        4 => share(random, machine, SHARED[which]),
+        5 => hold(random, machine, HELD[which]),
+        _ => fill(random, machine),
     }
+}
+
+fn hold(random: &mut Random, machine: &mut HandMade, held: Held) -> u32 {
+    let task = holdable(random, machine).unwrap_or_else(|| light(random));
+    machine.offered = Some(held(machine, task));
+    0
+}
+
+// Fresh tasks up to the 32nd, and a held one that fits.
+fn fill(random: &mut Random, machine: &mut HandMade) -> u32 {
+    let task = holdable(random, machine).unwrap_or_else(|| light(random));
+    let tasks = machine.tasks().expect("a sound machine");
+    machine.entries[tasks..].fill_with(|| Entry::fresh(light(random)));
+    machine.count = 32;
+    let own = random.pick(&machine.entries).task;
+    machine.offered = Some(random.pick(&[task, own]));
+    0
 }
 
 fn change_field(random: &mut Random, machine: &mut HandMade, edge: Edge) -> u32 {

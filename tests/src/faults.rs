@@ -1,9 +1,10 @@
 //! Number 0 clause by clause: everything that makes a machine made by hand unsound
-//! (document 01, "Why a call is not carried out", with changes 3 and 4 of document
+//! (document 01, "Why a call is not carried out", with changes 3, 4 and 10 of document
 //! 02), and by how much. A second statement beside the simulated machine's own.
 
 use crate::probe::{Entry, HandMade};
-use crate::tasks::{LONGEST_PERIOD, MOST_CORES, MOST_TASKS};
+use crate::tasks::{LONGEST_PERIOD, MOST_CORES, MOST_TASKS, Task};
+use crate::wrong;
 
 /// What can be wrong with the count, with m and with the cores of two tasks.
 pub const WHOLE: [&str; 5] = [
@@ -31,8 +32,21 @@ pub const OF_A_TASK: [&str; 13] = [
     "core above 16",
 ];
 
+/// What can be wrong with the held task: four clauses of number 5, then 12 and 13.
+pub const OF_THE_OFFER: [&str; 6] = [
+    "held C 0",
+    "held C above D",
+    "held D above T",
+    "held T above 1,000,000",
+    HELD_12,
+    HELD_13,
+];
+
+pub const HELD_12: &str = "held beside 32 tasks";
+pub const HELD_13: &str = "held and not admitted";
+
 /// One of these, how far the number is from its limit, and the task's number, or 0
-/// for the count, m and one core twice.
+/// for the count, m, one core twice and the held task.
 #[derive(Clone, Copy, Debug, PartialEq, Eq)]
 pub struct Fault {
     pub clause: &'static str,
@@ -47,6 +61,9 @@ pub fn faults(machine: &HandMade) -> Vec<Fault> {
     let tasks = machine.tasks().unwrap_or(MOST_TASKS);
     for (task, entry) in (1..).zip(&machine.entries[..tasks]) {
         faults.extend(list(task, &OF_A_TASK, &of_a_task(entry)));
+    }
+    if let Some(task) = machine.offered {
+        faults.extend(list(0, &OF_THE_OFFER, &of_the_offer(machine, &task)));
     }
     faults
 }
@@ -90,15 +107,48 @@ fn pairs_of_one_core(machine: &HandMade) -> u32 {
     pairs
 }
 
-// The same of a task's numbers and its job's, which is open or closed.
-fn of_a_task(entry: &Entry) -> [u32; 13] {
-    let (task, job) = (&entry.task, &entry.job);
-    let (open, closed) = (u32::from(job.open), u32::from(!job.open));
+// The same of a task's three numbers.
+fn of_numbers(task: &Task) -> [u32; 4] {
     [
         below(task.budget, 1),
         above(task.budget, task.deadline),
         above(task.deadline, task.period),
         above(task.period, LONGEST_PERIOD),
+    ]
+}
+
+// The same of the held task. Whether it is admitted is a question only where the table
+// with it can be judged.
+fn of_the_offer(machine: &HandMade, task: &Task) -> [u32; 6] {
+    let [no_budget, budget, deadline, period] = of_numbers(task);
+    let full = machine.tasks() == Some(MOST_TASKS);
+    let refused = is_refused(machine, task);
+    let beyond = [full, refused].map(u32::from);
+    [no_budget, budget, deadline, period, beyond[0], beyond[1]]
+}
+
+// By the slack test, as it is written beside its wrong versions.
+fn is_refused(machine: &HandMade, task: &Task) -> bool {
+    let table = machine.entries.iter().map(|entry| entry.task);
+    let mut longer: Vec<Task> = table.take(machine.tasks().unwrap_or(MOST_TASKS)).collect();
+    longer.push(*task);
+    let fits = longer.iter().all(|task| of_numbers(task) == [0; 4]);
+    let judged = fits
+        && (2..=MOST_TASKS).contains(&longer.len())
+        && (1..=MOST_CORES).contains(&machine.cores);
+    judged && !wrong::RIGHT.judge(&longer, machine.cores).1
+}
+
+// The same of a task's numbers and its job's, which is open or closed.
+fn of_a_task(entry: &Entry) -> [u32; 13] {
+    let (task, job) = (&entry.task, &entry.job);
+    let (open, closed) = (u32::from(job.open), u32::from(!job.open));
+    let [no_budget, budget, deadline, period] = of_numbers(task);
+    [
+        no_budget,
+        budget,
+        deadline,
+        period,
         above(job.gap, task.period),
         closed * above(job.left, 0),
         closed * above(job.budget, 0),

@@ -1,6 +1,6 @@
 //! An independent check of the table reader, the window test, the slack test, the quotes over
 //! ranges and the slot machine, compared with the C entry and the programs. It was written from
-//! document 01, changes 1 to 9 of document 02, the handbook's formats and what
+//! document 01, changes 1 to 10 of document 02, the handbook's formats and what
 //! docs/DECISIONS.md settles of these, and from no definition or code of crates/.
 
 pub mod answers;
@@ -17,11 +17,12 @@ pub mod extremes;
 pub mod faults;
 pub mod found;
 pub mod held;
+pub mod holdable;
 pub mod host;
-pub mod join_events;
 pub mod machine;
 pub mod need_events;
 pub mod needs;
+pub mod offer_events;
 pub mod oracle;
 pub mod parts;
 pub mod probe;
@@ -54,4 +55,5 @@ pub mod texts;
 pub mod ties;
 pub mod window;
 pub mod wrong;
+pub mod wrong_offers;
 pub mod wrong_quotes;

@@ -1,8 +1,9 @@
 //! The dispatching machine: document 01, "The slot machine", with the refusals
-//! of "Why a call is not carried out", and changes 1 to 6 of document 02: each slot
-//! names its cores, of equal deadlines the longer job goes first, an open task whose
-//! gap is below its left makes a machine unsound, each runner has its own core, each
-//! release names its job's need, e, and joins go by the slack test.
+//! of "Why a call is not carried out", and changes 1 to 6 and 10 of document 02: each
+//! slot names its cores, of equal deadlines the longer job goes first, an open task
+//! whose gap is below its left makes a machine unsound, each runner has its own core,
+//! each release names its job's need, e, and a task comes in by an offer, which goes by
+//! the slack test, and a commit.
 
 use std::cmp::Reverse;
 
@@ -24,12 +25,15 @@ pub struct Job {
     pub core: u32,
 }
 
-/// The table, m, and one job record for each task.
+/// The table, m, one job record for each task, and the held task.
 #[derive(Clone, Debug, PartialEq, Eq)]
 pub struct Machine {
     pub table: Vec<Task>,
     pub cores: u32,
     pub jobs: Vec<Job>,
+    /// The task that the machine holds: that of the last accepted offer, until a commit
+    /// adds it.
+    pub offered: Option<Task>,
 }
 
 /// What a slot tells, each set of tasks as the sum of 2 to the power
@@ -80,6 +84,7 @@ impl Machine {
             table: table.to_vec(),
             cores,
             jobs: vec![Job::default(); table.len()],
+            offered: None,
         })
     }
 
@@ -137,9 +142,36 @@ impl Machine {
         Ok(self.close_jobs(&picked))
     }
 
-    /// Join of a task at the end of the table, by the slack test. Refusals: 0, 5, 12, 13.
-    pub fn join(&mut self, task: Task) -> Result<(), Refusal> {
+    /// Offer of a task, which the machine holds from then on in place of an earlier one.
+    /// A refused one changes nothing. Refusals: 0, 5, 12, 13.
+    pub fn offer(&mut self, task: Task) -> Result<(), Refusal> {
         self.check_soundness()?;
+        self.check_offer(task)?;
+        self.offered = Some(task);
+        Ok(())
+    }
+
+    /// Commit of the held task, which is added; then none is held. Refusals: 0, 17.
+    pub fn commit(&mut self) -> Result<(), Refusal> {
+        self.check_soundness()?;
+        let task = self.offered.take().ok_or(Refusal::whole(17))?;
+        self.add(task);
+        Ok(())
+    }
+
+    /// The join of document 01 by the slack test, on a machine that holds no task. It is no
+    /// call: a commit gives the machine that it would give. Refusals: 0, 5, 12, 13.
+    pub fn join(&mut self, task: Task) -> Result<(), Refusal> {
+        assert_eq!(self.offered, None, "no task is held");
+        self.check_soundness()?;
+        self.check_offer(task)?;
+        self.add(task);
+        Ok(())
+    }
+
+    // 5, 12 and 13: the slack test on the table with the task at its end. The held task
+    // plays no part.
+    fn check_offer(&self, task: Task) -> Result<(), Refusal> {
         if !task.fits() {
             return Err(Refusal::whole(5));
         }
@@ -148,13 +180,17 @@ impl Machine {
         }
         let mut longer = self.table.clone();
         longer.push(task);
-        // A verdict that is a refusal ends the join with that refusal.
-        if !slack::judge(&longer, self.cores)?.admitted {
-            return Err(Refusal::whole(13));
+        // A verdict that is a refusal ends the offer with that refusal.
+        match slack::judge(&longer, self.cores)?.admitted {
+            true => Ok(()),
+            false => Err(Refusal::whole(13)),
         }
-        self.table = longer;
+    }
+
+    // At the end of the table: closed, its gap 0, without a core.
+    fn add(&mut self, task: Task) {
+        self.table.push(task);
         self.jobs.push(Job::default());
-        Ok(())
     }
 
     /// Step 1: the first min(k, number open) open tasks in precedence, from 0.
@@ -222,18 +258,27 @@ impl Machine {
         }
     }
 
-    // Number 0: no start, release, finish, slot or join leaves such a machine.
+    // Number 0: no start and no call leaves such a machine.
     fn check_soundness(&self) -> Result<(), Refusal> {
+        match self.is_sound() {
+            true => Ok(()),
+            false => Err(Refusal::whole(0)),
+        }
+    }
+
+    /// Whether the table and m start, every job is sound, no core is recorded twice, and
+    /// an offer would take the held task now.
+    pub fn is_sound(&self) -> bool {
         let starts = (1..=MOST_TASKS).contains(&self.table.len())
             && self.table.iter().all(Task::fits)
             && (1..=MOST_CORES).contains(&self.cores)
             && self.jobs.len() == self.table.len();
-        let mut held = self.table.iter().zip(&self.jobs);
-        if starts && held.all(|(task, job)| job.is_sound(task)) && !self.shares_a_core() {
-            Ok(())
-        } else {
-            Err(Refusal::whole(0))
-        }
+        let mut jobs = self.table.iter().zip(&self.jobs);
+        let takes = |task: Task| self.check_offer(task).is_ok();
+        starts
+            && jobs.all(|(task, job)| job.is_sound(task))
+            && !self.shares_a_core()
+            && self.offered.is_none_or(takes)
     }
 
     // Whether one core is recorded for two tasks. 0 is no core.

@@ -28,7 +28,8 @@ struct Past {
     slots: u32,
     // Accepted slots since a 15 while it was due, if it was not released since.
     refused: Option<u32>,
-    has_joined: bool,
+    // Added by a commit.
+    is_added: bool,
 }
 
 type Event<T> = (&'static str, fn(&T) -> bool);
@@ -57,8 +58,8 @@ const RELEASES: [Event<Release>; 19] = [
         "a release as soon as the gap of a job of e below C ended",
         |call| call.done() && call.past.spared > 0 && call.past.slots == call.task.period,
     ),
-    ("a release of a joined task with e below C", |call| {
-        call.is_short() && call.past.has_joined
+    ("a release of an added task with e below C", |call| {
+        call.is_short() && call.past.is_added
     }),
     (
         "a release after one of the due task was refused by 15",
@@ -211,7 +212,8 @@ pub fn met(script: &Script) -> Vec<&'static str> {
             Call::Release(number, need) => record.release(number, need),
             Call::Finish(number) => record.finish(number),
             Call::Slot(k) => record.slot(k),
-            Call::Join(_) | Call::Bad(_) => record.join(*call),
+            Call::Commit => record.commit(),
+            Call::Offer(_) | Call::Bad(_) => record.offer(*call),
         }
     }
     record.names
@@ -266,9 +268,13 @@ impl Record {
         }
     }
 
-    fn join(&mut self, call: Call) {
-        if carry_out(&mut self.machine, call) == Answer::Done {
-            self.pasts[self.machine.table.len() - 1].has_joined = true;
+    fn offer(&mut self, call: Call) {
+        carry_out(&mut self.machine, call);
+    }
+
+    fn commit(&mut self) {
+        if carry_out(&mut self.machine, Call::Commit) == Answer::Done {
+            self.pasts[self.machine.table.len() - 1].is_added = true;
         }
     }
 

@@ -1,6 +1,6 @@
 //! Machines made by hand, sound or not, as the program `probe` takes them, and what
-//! it prints for one call on such a machine: document 01 with changes 1 to 6 of
-//! document 02. All 32 entries are there, those past the count too.
+//! it prints for one call on such a machine: document 01 with changes 1 to 6 and 10 of
+//! document 02. All 32 entries are there, those past the count too, and the held task.
 
 use std::fmt;
 
@@ -21,6 +21,8 @@ pub struct HandMade {
     pub count: u32,
     pub cores: u32,
     pub entries: [Entry; MOST_TASKS],
+    /// The task that the machine holds.
+    pub offered: Option<Task>,
 }
 
 /// A machine made by hand and one call on it.
@@ -34,7 +36,7 @@ impl Entry {
     /// An entry of zeros.
     pub const ZERO: Entry = Entry::fresh(Task::new(0, 0, 0));
 
-    /// A task as a start or a join leaves it: closed, its left, budget and gap 0, and
+    /// A task as a start or a commit leaves it: closed, its left, budget and gap 0, and
     /// without a core.
     pub const fn fresh(task: Task) -> Entry {
         let job = Job {
@@ -64,29 +66,24 @@ impl Entry {
 
 impl fmt::Display for Entry {
     fn fmt(&self, line: &mut fmt::Formatter) -> fmt::Result {
-        let Task {
-            period,
-            budget,
-            deadline,
-        } = self.task;
-        let open = u32::from(self.job.open);
+        let (task, open) = (self.task, u32::from(self.job.open));
         let (left, owed, gap) = (self.job.left, self.job.budget, self.job.gap);
         let core = self.job.core;
-        write!(
-            line,
-            "{period} {budget} {deadline} {open} {left} {owed} {gap} {core}"
-        )
+        write!(line, "{task} {open} {left} {owed} {gap} {core}")
     }
 }
 
-// The 33 lines of a machine, each ended by byte 10.
+// The 34 lines of a machine, each ended by byte 10.
 impl fmt::Display for HandMade {
     fn fmt(&self, lines: &mut fmt::Formatter) -> fmt::Result {
         writeln!(lines, "MACHINE {} {}", self.count, self.cores)?;
         for entry in &self.entries {
             writeln!(lines, "{entry}")?;
         }
-        Ok(())
+        match self.offered {
+            Some(task) => writeln!(lines, "HELD {task}"),
+            None => writeln!(lines, "NONE"),
+        }
     }
 }
 
@@ -97,8 +94,9 @@ impl HandMade {
             count: 0,
             cores: machine.cores,
             entries: [Entry::ZERO; MOST_TASKS],
+            offered: None,
         };
-        made.hold(machine);
+        made.write(machine);
         made
     }
 
@@ -108,28 +106,31 @@ impl HandMade {
         (tasks <= MOST_TASKS).then_some(tasks)
     }
 
-    /// The table, m and the jobs, without the entries past the count.
+    /// The table, m, the jobs and the held task, without the entries past the count.
     pub fn machine(&self) -> Option<Machine> {
-        let held = &self.entries[..self.tasks()?];
+        let entries = &self.entries[..self.tasks()?];
         Some(Machine {
-            table: held.iter().map(|entry| entry.task).collect(),
+            table: entries.iter().map(|entry| entry.task).collect(),
             cores: self.cores,
-            jobs: held.iter().map(|entry| entry.job).collect(),
+            jobs: entries.iter().map(|entry| entry.job).collect(),
+            offered: self.offered,
         })
     }
 
-    // Writes the table and its jobs over the first entries, and no others.
-    fn hold(&mut self, machine: &Machine) {
+    /// Writes the table and its jobs over the first entries, and no others, and the held
+    /// task.
+    pub fn write(&mut self, machine: &Machine) {
         let tasks = machine.table.iter().zip(&machine.jobs);
         for (entry, (task, job)) in self.entries.iter_mut().zip(tasks) {
             (entry.task, entry.job) = (*task, *job);
         }
         self.count = u32::try_from(machine.table.len()).expect("at most 32 tasks");
+        self.offered = machine.offered;
     }
 }
 
 impl Probe {
-    /// The machine's 33 lines and the line of the call.
+    /// The machine's 34 lines and the line of the call.
     pub fn text(&self) -> String {
         format!("{}{}\n", self.machine, self.call)
     }
@@ -142,7 +143,7 @@ impl Probe {
             return (Answer::Refused(0), after);
         };
         let answer = carry_out(&mut machine, self.call);
-        after.hold(&machine);
+        after.write(&machine);
         (answer, after)
     }
 }

@@ -1,13 +1,15 @@
 //! Random machines made by hand, each with one call: sound ones that calls reach,
-//! these with one field changed, sound ones that no call reaches, and raw ones.
+//! these with one field changed, sound ones that no call reaches, and raw ones. All of
+//! them hold a task or none.
 
 use crate::edges::{CHANGES, change};
+use crate::holdable::{holdable, largest};
 use crate::machine::{Job, Machine};
 use crate::needs::{self, NEEDS};
 use crate::probe::{Entry, HandMade, Probe};
 use crate::random::Random;
 use crate::script::{Call, carry_out};
-use crate::scripts::{self, joining, light, odd_task};
+use crate::scripts::{self, light, odd_task, to_offer};
 use crate::tables;
 use crate::tasks::{MOST_CORES, MOST_TASKS, Task};
 
@@ -122,7 +124,17 @@ fn wide(random: &mut Random) -> Machine {
 fn with_past(random: &mut Random, machine: &Machine) -> HandMade {
     let mut made = HandMade::of_machine(machine);
     fill_past(random, &mut made);
+    hold_well(random, &mut made);
     made
+}
+
+// What calls left held, none, or a task that an offer would take.
+fn hold_well(random: &mut Random, machine: &mut HandMade) {
+    match random.below(5) {
+        0 => {}
+        1 | 2 => machine.offered = None,
+        _ => machine.offered = holdable(random, machine),
+    }
 }
 
 fn fill_past(random: &mut Random, machine: &mut HandMade) {
@@ -155,6 +167,7 @@ fn unreached(random: &mut Random, reached: &Machine) -> HandMade {
     let tasks = machine.tasks().expect("a sound machine");
     any_jobs(random, &mut machine.entries[..tasks]);
     fill_past(random, &mut machine);
+    hold_well(random, &mut machine);
     machine
 }
 
@@ -223,6 +236,7 @@ fn small(random: &mut Random) -> HandMade {
         count: random.between(1, 3),
         cores: random.between(1, 3),
         entries: [Entry::ZERO; MOST_TASKS],
+        offered: None,
     };
     let tasks = machine.tasks().expect("at most 3 tasks");
     machine.entries[..tasks].fill_with(|| small_entry(random));
@@ -230,6 +244,9 @@ fn small(random: &mut Random) -> HandMade {
         any_cores(random, &mut machine.entries[..tasks]);
     }
     fill_past(random, &mut machine);
+    if random.one_in(3) {
+        machine.offered = Some(small_entry(random).task);
+    }
     machine
 }
 
@@ -257,7 +274,11 @@ fn raw(random: &mut Random) -> HandMade {
         count: random.pick(&[0, 1, any, 32, 33, 65_536 + 1, u32::MAX]),
         cores: random.pick(&[0, 1, 2, MOST_CORES, 17, 256 + 1, u32::MAX]),
         entries: [Entry::ZERO; MOST_TASKS],
+        offered: None,
     };
+    if random.one_in(2) {
+        machine.offered = Some(raw_entry(random).task);
+    }
     if random.one_in(2) {
         machine.entries.fill_with(|| raw_entry(random));
     } else {
@@ -276,11 +297,12 @@ fn raw_entry(random: &mut Random) -> Entry {
 
 // A call of any kind, often one that concerns the task that was changed.
 fn with_call(random: &mut Random, machine: HandMade, changed: u32) -> Probe {
-    let call = match random.below(4) {
+    let call = match random.below(5) {
         0 => release(random, &machine, changed),
         1 => Call::Finish(number(random, &machine, changed)),
         2 => Call::Slot(cores(random, machine.cores)),
-        _ => Call::Join(joins(random, &machine)),
+        3 => Call::Commit,
+        _ => Call::Offer(offer(random, &machine)),
     };
     Probe { machine, call }
 }
@@ -326,12 +348,19 @@ fn cores(random: &mut Random, m: u32) -> u32 {
     random.pick(&[m, m, m, more, 16, edge, edge])
 }
 
-fn joins(random: &mut Random, machine: &HandMade) -> Task {
+// The held task again, the largest budget that is taken or a slot more, or any task.
+fn offer(random: &mut Random, machine: &HandMade) -> Task {
     let tasks = machine.tasks().unwrap_or(MOST_TASKS).max(1);
     let table = machine.entries[..tasks].iter().map(|entry| entry.task);
     let table: Vec<Task> = table.collect();
-    match random.below(4) {
-        0 => odd_task(random),
-        _ => joining(random, &table),
+    match (random.below(8), machine.offered) {
+        (0, _) => odd_task(random),
+        (1, Some(task)) => task,
+        (2, _) => {
+            let task = light(random);
+            let more = random.between(0, 1);
+            largest(machine, task, more)
+        }
+        _ => to_offer(random, &table),
     }
 }

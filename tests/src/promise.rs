@@ -1,9 +1,10 @@
 //! Demand 3 (document 01, "Demand 3 is a single claim about the whole list of
-//! calls", with changes 1, 5 and 6 of document 02), read from a script and its printed
+//! calls", with changes 1, 5, 6 and 10 of document 02), read from a script and its printed
 //! answers alone: on a table that the slack test admits, whatever k each slot and
 //! whatever e each release names, no slot reports a late job, and each released job is
 //! closed in time, by having run e slots or by a finish. A refused slot is no slot in
-//! anybody's D.
+//! anybody's D. An accepted commit adds the task of the last accepted offer since the last
+//! accepted commit: it always has one, and a refused commit has none.
 
 use crate::reading::read;
 use crate::script::{Call, Script};
@@ -23,6 +24,11 @@ pub struct Kept {
     pub undecided: u64,
     pub past_refused_slots: u64,
     pub too_late_if_counted: u64,
+    /// Of the closed ones, those of tasks that a commit added.
+    pub of_added_tasks: u64,
+    /// Of the closed ones, those open while an offer or a commit was accepted.
+    pub past_offers: u64,
+    pub past_commits: u64,
 }
 
 // A job of an accepted release that is not closed yet.
@@ -34,8 +40,12 @@ struct Watch {
     is_short: bool,
     // Accepted slots up to and including the D-th after the release.
     slots: u32,
-    // Refused slots since the release.
+    // Refused slots, accepted offers and accepted commits since the release.
     refused_slots: u32,
+    offers: u32,
+    commits: u32,
+    // Whether a commit added its task.
+    is_added: bool,
 }
 
 // Of the numbers of an accepted slot those that the demand reads: no core.
@@ -54,7 +64,9 @@ pub fn applies(script: &Script) -> bool {
 pub fn check(script: &Script, printed: &str) -> Result<Kept, String> {
     let table = read(&script.table).map_err(|refusal| format!("{refusal:?}"))?;
     let mut record = Record {
+        started: table.len(),
         table,
+        offered: None,
         open: Vec::new(),
         kept: Kept::default(),
     };
@@ -64,20 +76,23 @@ pub fn check(script: &Script, printed: &str) -> Result<Kept, String> {
             break;
         }
         let answer = answers.next().ok_or(format!("call {place}: no answer"))?;
-        if answer.starts_with("REFUSED ") {
-            record.refuse(*call);
-        } else {
-            let fault = record.accept(*call, answer);
-            fault.map_err(|fault| format!("call {place}: {fault}"))?;
-        }
+        let fault = match answer.starts_with("REFUSED ") {
+            true => record.refuse(*call),
+            false => record.accept(*call, answer),
+        };
+        fault.map_err(|fault| format!("call {place}: {fault}"))?;
     }
     record.kept.undecided = u64::try_from(record.open.len()).expect("a count of 64 bits");
     Ok(record.kept)
 }
 
-// The tasks so far and the jobs whose closing is still awaited.
+// The tasks so far, the task that a commit would add, and the jobs whose closing is still
+// awaited.
 struct Record {
+    // How many tasks the table had at the start.
+    started: usize,
     table: Vec<Task>,
+    offered: Option<Task>,
     open: Vec<Watch>,
     kept: Kept,
 }
@@ -93,19 +108,41 @@ impl Record {
         match call {
             Call::Release(number, need) => self.release(number, need)?,
             Call::Finish(number) => self.finish(number),
-            Call::Join(task) => self.table.push(task),
+            Call::Offer(task) => self.offer(task),
+            Call::Commit => self.commit()?,
             Call::Slot(_) | Call::Bad(_) => {}
         }
         Ok(())
     }
 
-    // A refused slot is noted and counts for nothing else.
-    fn refuse(&mut self, call: Call) {
+    // A refused slot is noted and counts for nothing else. A commit is refused only where
+    // it has no task to add.
+    fn refuse(&mut self, call: Call) -> Result<(), String> {
         if matches!(call, Call::Slot(_)) {
             for watch in &mut self.open {
                 watch.refused_slots += 1;
             }
         }
+        match self.offered {
+            Some(task) if call == Call::Commit => Err(format!("a refused commit of {task}")),
+            _ => Ok(()),
+        }
+    }
+
+    fn offer(&mut self, task: Task) {
+        self.offered = Some(task);
+        for watch in &mut self.open {
+            watch.offers += 1;
+        }
+    }
+
+    fn commit(&mut self) -> Result<(), String> {
+        let task = self.offered.take().ok_or("a commit of no offer")?;
+        self.table.push(task);
+        for watch in &mut self.open {
+            watch.commits += 1;
+        }
+        Ok(())
     }
 
     // e is the call's, C and D are those of the table at this point.
@@ -119,6 +156,9 @@ impl Record {
             is_short: need < task.budget,
             slots: task.deadline,
             refused_slots: 0,
+            offers: 0,
+            commits: 0,
+            is_added: index > self.started,
         });
         Ok(())
     }
@@ -153,6 +193,9 @@ impl Record {
             closed += 1;
             self.kept.past_refused_slots += u64::from(watch.refused_slots > 0);
             self.kept.too_late_if_counted += u64::from(watch.refused_slots > watch.slots);
+            self.kept.of_added_tasks += u64::from(watch.is_added);
+            self.kept.past_offers += u64::from(watch.offers > 0);
+            self.kept.past_commits += u64::from(watch.commits > 0);
         }
         closed
     }

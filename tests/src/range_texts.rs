@@ -39,7 +39,7 @@ fn damaged(random: &mut Random) -> Vec<u8> {
     for _ in 0..=random.pick(&[0, 0, 0, 1, 2]) {
         match random.below(8) {
             0 => other_names(random, &mut text),
-            1 => join_another(random, &mut text),
+            1 => add_another(random, &mut text),
             _ => texts::damage(random, &mut text),
         }
     }
@@ -65,7 +65,7 @@ fn other_names(random: &mut Random, text: &mut Vec<u8>) {
 }
 
 // Other ranges after these, with or without their names line.
-fn join_another(random: &mut Random, text: &mut Vec<u8>) {
+fn add_another(random: &mut Random, text: &mut Vec<u8>) {
     let other = write(&valid(random));
     let from = random.pick(&[0, NAMES_LINE.len()]);
     text.extend_from_slice(&other[from..]);

@@ -1,6 +1,6 @@
 //! Scripts for the program that replays calls: the number of cores, a table as
 //! text and a list of calls, with the answers that document 01 expects, and
-//! changes 1 to 6 of document 02.
+//! changes 1 to 6 and 10 of document 02.
 
 use std::fmt;
 
@@ -19,7 +19,8 @@ pub enum Call {
     Finish(u32),
     /// A slot with its number of cores, k.
     Slot(u32),
-    Join(Task),
+    Offer(Task),
+    Commit,
     /// A line that is no call.
     Bad(&'static str),
 }
@@ -48,14 +49,8 @@ impl fmt::Display for Call {
             Call::Release(number, need) => write!(line, "RELEASE {number} {need}"),
             Call::Finish(number) => write!(line, "FINISH {number}"),
             Call::Slot(cores) => write!(line, "SLOT {cores}"),
-            Call::Join(task) => {
-                let Task {
-                    period,
-                    budget,
-                    deadline,
-                } = task;
-                write!(line, "JOIN {period} {budget} {deadline}")
-            }
+            Call::Offer(task) => write!(line, "OFFER {task}"),
+            Call::Commit => write!(line, "COMMIT"),
             Call::Bad(bytes) => write!(line, "{bytes}"),
         }
     }
@@ -142,7 +137,8 @@ pub fn carry_out(machine: &mut Machine, call: Call) -> Answer {
         Call::Release(number, need) => machine.release(number, need).map(|()| Answer::Done),
         Call::Finish(number) => machine.finish(number).map(|()| Answer::Done),
         Call::Slot(cores) => machine.slot(cores).map(Answer::Ran),
-        Call::Join(task) => machine.join(task).map(|()| Answer::Done),
+        Call::Offer(task) => machine.offer(task).map(|()| Answer::Done),
+        Call::Commit => machine.commit().map(|()| Answer::Done),
         Call::Bad(line) => panic!("no call: {line}"),
     };
     answer.unwrap_or_else(|refusal| Answer::Refused(refusal.number))

@@ -21,22 +21,24 @@ pub const MOST_CALLS: usize = 1_000;
 const FILLING: usize = 100;
 
 // How often each kind of call comes, out of 64; the rest are slots. A call for
-// which there is no task, such as a release when none is due, becomes a slot.
+// which there is no task, such as a release when none is due or a commit when none is
+// held, becomes a slot.
 #[derive(Clone, Copy)]
 struct Rates {
     release: usize,
     finish: usize,
-    join: usize,
+    offer: usize,
+    commit: usize,
     odd: usize,
 }
 
-const PERIODIC: Rates = rates(64, 0, 0, 0);
-const DENSE: Rates = rates(44, 3, 1, 4);
-const BUSY: Rates = rates(32, 1, 0, 1);
-const SPARSE: Rates = rates(8, 3, 1, 4);
-const WILD: Rates = rates(16, 10, 6, 16);
-const JOINING: Rates = rates(16, 2, 24, 4);
-const COMPLETED: Rates = rates(40, 1, 4, 2);
+const PERIODIC: Rates = rates(64, 0, 0, 0, 0);
+const DENSE: Rates = rates(42, 3, 1, 2, 4);
+const BUSY: Rates = rates(32, 1, 0, 0, 1);
+const SPARSE: Rates = rates(8, 3, 1, 2, 4);
+const WILD: Rates = rates(16, 10, 6, 4, 16);
+const OFFERING: Rates = rates(10, 2, 20, 20, 4);
+const COMPLETED: Rates = rates(36, 1, 4, 6, 2);
 
 // Tables are filled up to the edge of the slack test most of the time.
 const TESTS: [Admits; 3] = [slack::admits, slack::admits, window::admits];
@@ -60,7 +62,7 @@ const CORE_RATES: [CoreRates; 8] = [
 ];
 
 // Lines that are no call by the format: other words, counts, digits and bytes.
-const BAD_LINES: [&str; 38] = [
+const BAD_LINES: [&str; 54] = [
     "SLOTS 2",
     "slot 2",
     "SLOT",
@@ -95,9 +97,25 @@ const BAD_LINES: [&str; 38] = [
     "FINISH 1x",
     "FINISH 4294967296",
     "FINISH 12345678901",
-    "JOIN",
-    "JOIN 4 1",
-    "JOIN 4 1 4 4",
+    "OFFER",
+    "OFFER ",
+    "OFFER 4",
+    "OFFER 4 1",
+    "OFFER 4 1 ",
+    "OFFER 4 1 4 ",
+    "OFFER 4 1 4 4",
+    "OFFER  4 1 4",
+    "OFFER 4 01 4",
+    "OFFER 4 1 4294967296",
+    "OFFERS 4 1 4",
+    "offer 4 1 4",
+    "COMMIT ",
+    "COMMIT 1",
+    "COMMIT 4 1 4",
+    "COMMITS",
+    "COMMI",
+    "commit",
+    "JOIN 4 1 4",
     "STOP 1",
 ];
 
@@ -159,12 +177,12 @@ fn ended_by_a_bad_line(random: &mut Random) -> Script {
     script
 }
 
-// Light tasks on many cores, so that joins reach 32 tasks.
+// Light tasks on many cores, so that commits reach 32 tasks.
 fn growing(random: &mut Random) -> Script {
     let tasks = 1 + random.below(MOST_TASKS);
     let table: Vec<Task> = (0..tasks).map(|_| light(random)).collect();
     let cores = random.between(2, MOST_CORES);
-    let rates = random.pick(&[JOINING, JOINING, WILD, DENSE]);
+    let rates = random.pick(&[OFFERING, OFFERING, WILD, DENSE]);
     on_table(random, cores, &table, rates)
 }
 
@@ -204,7 +222,7 @@ fn finest(random: &mut Random) -> Script {
 }
 
 // A table as above, or one that a cut after 64 rounds decides, without its last tasks,
-// which join in between: most of them are tasks that only the slack test admits.
+// which are offered in between: most of them are tasks that only the slack test admits.
 fn completed(random: &mut Random) -> Script {
     let mut cores = random.pick(&[1, 1, 2, 2, 3, 4]);
     let mut table = filled(random, cores, short);
@@ -212,9 +230,9 @@ fn completed(random: &mut Random) -> Script {
         (cores, table) = (1, slow::near_cut(random));
     }
     let most = table.len().min(4);
-    let joining = table.split_off(table.len() - random.below(most));
+    let last = table.split_off(table.len() - random.below(most));
     let text = texts::write(&table, random.pick(&ORDERS));
-    with_joins(random, cores, text, COMPLETED, joining)
+    with_offers(random, cores, text, COMPLETED, last)
 }
 
 // Tasks that share a period and a deadline and differ in their budgets: jobs that
@@ -260,7 +278,7 @@ fn near_edge(random: &mut Random) -> Script {
         1 | 2 => last_refused.max(1),
         _ => (last_refused + 1).min(MOST_CORES),
     };
-    let rates = random.pick(&[PERIODIC, DENSE, DENSE, SPARSE, WILD, JOINING]);
+    let rates = random.pick(&[PERIODIC, DENSE, DENSE, SPARSE, WILD, OFFERING]);
     on_table(random, cores, &table, rates)
 }
 
@@ -320,18 +338,18 @@ fn on_table(random: &mut Random, cores: u32, table: &[Task], rates: Rates) -> Sc
 }
 
 fn with_calls(random: &mut Random, cores: u32, table: Vec<u8>, rates: Rates) -> Script {
-    with_joins(random, cores, table, rates, Vec::new())
+    with_offers(random, cores, table, rates, Vec::new())
 }
 
 // The calls are chosen with a machine at hand, so that many are accepted. The first
-// joins are of the given tasks, from the last to the first.
+// offers while none is held are of the given tasks, from the last to the first.
 // Where the start is refused, any table serves to choose calls.
-fn with_joins(
+fn with_offers(
     random: &mut Random,
     cores: u32,
     table: Vec<u8>,
     rates: Rates,
-    mut joins: Vec<Task>,
+    mut offers: Vec<Task>,
 ) -> Script {
     let tasks = read(&table).unwrap_or_else(|_| vec![light(random)]);
     let chosen = cores.clamp(1, MOST_CORES);
@@ -340,7 +358,7 @@ fn with_joins(
     let needs = random.pick(&NEEDS);
     let mut calls = Vec::new();
     for _ in 0..length(random) {
-        let call = next(random, &machine, rates, needs, &mut joins);
+        let call = next(random, &machine, rates, needs, &mut offers);
         let call = call.unwrap_or_else(|| Call::Slot(cores_of_slot(random, chosen, core_rates)));
         carry_out(&mut machine, call);
         calls.push(call);
@@ -367,20 +385,18 @@ fn next(
     machine: &Machine,
     rates: Rates,
     needs: Needs,
-    joins: &mut Vec<Task>,
+    offers: &mut Vec<Task>,
 ) -> Option<Call> {
     let release = rates.release;
     let finish = release + rates.finish;
-    let join = finish + rates.join;
-    let odd = join + rates.odd;
+    let offer = finish + rates.offer;
+    let commit = offer + rates.commit;
+    let odd = commit + rates.odd;
     match random.below(64) {
         roll if roll < release => release_due(random, machine, needs),
         roll if roll < finish => finish_open(random, machine),
-        roll if roll < join => {
-            let first = joins.pop();
-            let task = first.unwrap_or_else(|| near_edge_of_joins(random, machine));
-            Some(Call::Join(task))
-        }
+        roll if roll < offer => Some(Call::Offer(next_offer(random, machine, offers))),
+        roll if roll < commit => machine.offered.map(|_| Call::Commit),
         roll if roll < odd => odd_call(random, machine),
         _ => None,
     }
@@ -443,9 +459,24 @@ fn some_task(random: &mut Random, machine: &Machine, so: fn(&Job) -> bool) -> Op
     (!found.is_empty()).then(|| random.pick(&found))
 }
 
+// One of the given tasks while none is held. While one is held, sometimes that one again,
+// which a test beside it may refuse, or one slot longer.
+fn next_offer(random: &mut Random, machine: &Machine, offers: &mut Vec<Task>) -> Task {
+    match machine.offered {
+        None => offers
+            .pop()
+            .unwrap_or_else(|| near_edge_of_offers(random, machine)),
+        Some(task) => match random.below(6) {
+            0 => task,
+            1 => Task::new(task.period, task.budget + 1, task.deadline),
+            _ => near_edge_of_offers(random, machine),
+        },
+    }
+}
+
 // Half of the time a task that only the slack test admits, if a few tries find one.
-fn near_edge_of_joins(random: &mut Random, machine: &Machine) -> Task {
-    let any = joining(random, &machine.table);
+fn near_edge_of_offers(random: &mut Random, machine: &Machine) -> Task {
+    let any = to_offer(random, &machine.table);
     if random.one_in(2) || machine.table.len() == MOST_TASKS {
         return any;
     }
@@ -462,7 +493,7 @@ fn near_edge_of_joins(random: &mut Random, machine: &Machine) -> Task {
 }
 
 /// A task that may be admitted: light, as one of the table, or any.
-pub fn joining(random: &mut Random, table: &[Task]) -> Task {
+pub fn to_offer(random: &mut Random, table: &[Task]) -> Task {
     match random.below(8) {
         0..=3 => light(random),
         4 => random.pick(table),
@@ -473,11 +504,11 @@ pub fn joining(random: &mut Random, table: &[Task]) -> Task {
 }
 
 // Calls that are refused most of the time: too soon, of a need that is 0 or too
-// large, of a closed or of no task, or a join that breaks the limits.
+// large, of a closed or of no task, an offer that breaks the limits, or a commit.
 fn odd_call(random: &mut Random, machine: &Machine) -> Option<Call> {
-    let held = u32::try_from(machine.table.len()).expect("at most 32 tasks");
-    let any = random.between(1, held);
-    match random.below(10) {
+    let tasks = u32::try_from(machine.table.len()).expect("at most 32 tasks");
+    let any = random.between(1, tasks);
+    match random.below(12) {
         0 | 1 => Some(odd_release(random, machine, any)),
         2 | 3 => {
             let number = some_task(random, machine, |job| job.gap > 0)?;
@@ -485,9 +516,10 @@ fn odd_call(random: &mut Random, machine: &Machine) -> Option<Call> {
         }
         4 => some_task(random, machine, |job| !job.open).map(Call::Finish),
         5 => Some(Call::Finish(any)),
-        6 | 7 => Some(release_of_no_task(random, machine, held)),
-        8 => Some(Call::Finish(no_task(random, held))),
-        _ => Some(Call::Join(odd_task(random))),
+        6 | 7 => Some(release_of_no_task(random, machine, tasks)),
+        8 => Some(Call::Finish(no_task(random, tasks))),
+        9 => Some(Call::Commit),
+        _ => Some(Call::Offer(odd_task(random))),
     }
 }
 
@@ -502,19 +534,20 @@ fn odd_release(random: &mut Random, machine: &Machine, number: u32) -> Call {
 }
 
 // With any need: 0, too large for all, or one that some task takes.
-fn release_of_no_task(random: &mut Random, machine: &Machine, held: u32) -> Call {
+fn release_of_no_task(random: &mut Random, machine: &Machine, tasks: u32) -> Call {
     let some = random.pick(&machine.table);
     let good = needs::accepted(random, Needs::Any, &some);
     let refused = needs::refused(random, &some);
     let need = random.pick(&[0, good, refused]);
-    Call::Release(no_task(random, held), need)
+    Call::Release(no_task(random, tasks), need)
 }
 
-// Numbers that are not in the table: the neighbours, and some that a cut to
-// fewer bits or a wrap would bring back into it.
-fn no_task(random: &mut Random, held: u32) -> u32 {
-    let far = random.between(held + 1, u32::MAX);
-    random.pick(&[0, held + 1, 33, 64, 256 + 1, 65_536 + 1, u32::MAX, far])
+// Numbers that are not in a table of so many tasks: the neighbours, of which the next is
+// that of a held task, and some that a cut to fewer bits or a wrap would bring back into it.
+fn no_task(random: &mut Random, tasks: u32) -> u32 {
+    let (next, far) = (tasks + 1, random.between(tasks + 1, u32::MAX));
+    let near = random.pick(&[0, next, next, next]);
+    random.pick(&[near, near, 33, 64, 256 + 1, 65_536 + 1, u32::MAX, far])
 }
 
 /// A task outside 1 ≤ C ≤ D ≤ T ≤ 1,000,000, near or far, or at its edge.
@@ -538,11 +571,12 @@ pub fn odd_task(random: &mut Random) -> Task {
     }
 }
 
-const fn rates(release: usize, finish: usize, join: usize, odd: usize) -> Rates {
+const fn rates(release: usize, finish: usize, offer: usize, commit: usize, odd: usize) -> Rates {
     Rates {
         release,
         finish,
-        join,
+        offer,
+        commit,
         odd,
     }
 }

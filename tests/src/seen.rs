@@ -1,20 +1,22 @@
 //! What a comparison of machines made by hand should meet: events about the gap of
 //! an open task (document 02, change 3), the limits of sound machines, jobs that no
-//! list of calls leaves, recorded cores (change 4), needs (change 5), and the entries
-//! past the count.
+//! list of calls leaves, recorded cores (change 4), needs (change 5), the held task (change
+//! 10), and the entries past the count.
 
 use std::collections::BTreeSet;
 
 use crate::assignment::{self, Assignment};
-use crate::faults::{Fault, faults};
+use crate::faults::{Fault, HELD_12, HELD_13, OF_THE_OFFER, faults};
 use crate::machine::{Job, Slot};
 use crate::probe::{Entry, HandMade, Probe};
 use crate::script::{Answer, Call};
 use crate::slack::admits;
 use crate::tasks::{MOST_TASKS, Task};
+use crate::window;
 
+pub const COMMIT: &str = "COMMIT";
 pub const FINISH: &str = "FINISH";
-pub const JOIN: &str = "JOIN";
+pub const OFFER: &str = "OFFER";
 pub const RELEASE: &str = "RELEASE";
 pub const SLOT: &str = "SLOT";
 
@@ -196,7 +198,7 @@ const JOBS: [Event; 15] = [
 ];
 
 // Recorded cores: which are sound, and which calls keep them.
-const RECORDS: [Event; 16] = [
+const RECORDS: [Event; 17] = [
     ("accepted, core 16 recorded", |seen| {
         seen.accepted_task(|_, job| job.core == 16)
     }),
@@ -243,14 +245,17 @@ const RECORDS: [Event; 16] = [
     ("finish of a task with a core", |seen| {
         seen.is(FINISH, Answer::Done) && seen.named().is_some_and(|entry| entry.job.core > 0)
     }),
-    ("join, cores recorded", |seen| {
-        seen.is(JOIN, Answer::Done) && seen.has_task(|_, job| job.core > 0)
+    ("offer, cores recorded", |seen| {
+        seen.is(OFFER, Answer::Done) && seen.has_task(|_, job| job.core > 0)
+    }),
+    ("commit, cores recorded", |seen| {
+        seen.is(COMMIT, Answer::Done) && seen.has_task(|_, job| job.core > 0)
     }),
     ("refused slot, cores recorded", |seen| {
         seen.is(SLOT, Answer::Refused(14)) && seen.has_task(|_, job| job.core > 0)
     }),
-    ("refused join, cores recorded", |seen| {
-        seen.is(JOIN, Answer::Refused(13)) && seen.has_task(|_, job| job.core > 0)
+    ("refused offer, cores recorded", |seen| {
+        seen.is(OFFER, Answer::Refused(13)) && seen.has_task(|_, job| job.core > 0)
     }),
 ];
 
@@ -344,8 +349,179 @@ const NEEDS: [Event; 21] = [
     }),
 ];
 
-// Entries past the count: no call reads them, and only a join writes its own.
-const PAST: [Event; 20] = [
+// Offers, by what is held before them.
+const OFFERS: [Event; 14] = [
+    ("offer, none held", |seen| {
+        seen.is(OFFER, Answer::Done) && !seen.holds()
+    }),
+    ("offer that displaces another task", |seen| {
+        seen.is(OFFER, Answer::Done) && seen.holds() && !seen.offers_held()
+    }),
+    ("offer of the held task", |seen| {
+        seen.is(OFFER, Answer::Done) && seen.offers_held()
+    }),
+    ("offer that would be refused beside the held task", |seen| {
+        seen.is(OFFER, Answer::Done) && seen.is_refused_beside_held()
+    }),
+    ("offer that the window test would refuse", |seen| {
+        let admits = |task| window::admits(&seen.with(task), seen.before.cores);
+        seen.is(OFFER, Answer::Done) && !seen.offer().is_some_and(admits)
+    }),
+    ("offer to 31 tasks", |seen| {
+        seen.is(OFFER, Answer::Done) && seen.before.count == 31
+    }),
+    ("offer while a job is open", |seen| {
+        seen.is(OFFER, Answer::Done) && seen.has_task(|_, job| job.open)
+    }),
+    ("5 for an offer, none held", |seen| {
+        seen.is(OFFER, Answer::Refused(5)) && !seen.holds()
+    }),
+    ("5 for an offer, a task held", |seen| {
+        seen.is(OFFER, Answer::Refused(5)) && seen.holds()
+    }),
+    ("5 for an offer to 32 tasks", |seen| {
+        seen.is(OFFER, Answer::Refused(5)) && seen.before.count == 32
+    }),
+    ("13 for an offer, none held", |seen| {
+        seen.is(OFFER, Answer::Refused(13)) && !seen.holds()
+    }),
+    ("13 for an offer, a task held", |seen| {
+        seen.is(OFFER, Answer::Refused(13)) && seen.holds()
+    }),
+    (
+        "0 for 12 of the held task alone, offer of that task",
+        |seen| seen.offers_held() && seen.held_fault() == Some(HELD_12),
+    ),
+    ("0 for the held task alone, offer that fits", |seen| {
+        let other = seen.offer().is_some_and(|task| task.fits());
+        other && !seen.offers_held() && seen.held_fault().is_some()
+    }),
+];
+
+// Commits.
+const COMMITS: [Event; 6] = [
+    (
+        "commit of a task that the window test would refuse",
+        |seen| seen.is(COMMIT, Answer::Done) && !seen.held_by_window(),
+    ),
+    ("commit while a job is open", |seen| {
+        seen.is(COMMIT, Answer::Done) && seen.has_task(|_, job| job.open)
+    }),
+    ("17 while a job is open", |seen| {
+        seen.is(COMMIT, Answer::Refused(17)) && seen.has_task(|_, job| job.open)
+    }),
+    ("17, table not admitted", |seen| {
+        seen.is(COMMIT, Answer::Refused(17)) && !seen.is_admitted()
+    }),
+    ("0 for a commit, none held", |seen| {
+        seen.is(COMMIT, Answer::Refused(0)) && !seen.holds()
+    }),
+    ("0 for a commit, the held task at no fault", |seen| {
+        seen.is(COMMIT, Answer::Refused(0)) && seen.alone().is_some() && seen.holds_well()
+    }),
+];
+
+// The other calls while a task is held.
+const HOLDING: [Event; 12] = [
+    ("release, a task held", |seen| {
+        seen.is(RELEASE, Answer::Done) && seen.holds()
+    }),
+    ("finish, a task held", |seen| {
+        seen.is(FINISH, Answer::Done) && seen.holds()
+    }),
+    ("slot, a task held", |seen| {
+        seen.slot(|slot| slot.runners > 0) && seen.holds()
+    }),
+    ("slot with a late job, a task held", |seen| {
+        seen.slot(|slot| slot.late != 0) && seen.holds()
+    }),
+    ("8 for a release, a task held", |seen| {
+        seen.is(RELEASE, Answer::Refused(8)) && seen.holds()
+    }),
+    (
+        "8 for a release of the number after the last, a task held",
+        |seen| seen.is(RELEASE, Answer::Refused(8)) && seen.holds() && seen.next_is(|_| true),
+    ),
+    ("15 for a release, a task held", |seen| {
+        seen.is(RELEASE, Answer::Refused(15)) && seen.holds()
+    }),
+    ("9 for a release, a task held", |seen| {
+        seen.is(RELEASE, Answer::Refused(9)) && seen.holds()
+    }),
+    ("8 for a finish, a task held", |seen| {
+        seen.is(FINISH, Answer::Refused(8)) && seen.holds()
+    }),
+    ("11 for a finish, a task held", |seen| {
+        seen.is(FINISH, Answer::Refused(11)) && seen.holds()
+    }),
+    ("14 for a slot, a task held", |seen| {
+        seen.is(SLOT, Answer::Refused(14)) && seen.holds()
+    }),
+    ("0 for another fault alone, a task held", |seen| {
+        seen.alone().is_some() && seen.holds_well()
+    }),
+];
+
+// The held task at the limits of 5, 12 and 13.
+const HELD: [Event; 13] = [
+    ("sound, held beside 31 tasks", |seen| {
+        seen.sound_held(|_| true) && seen.before.count == 31
+    }),
+    ("sound, held C 1", |seen| {
+        seen.sound_held(|task| task.budget == 1)
+    }),
+    ("sound, held C = D", |seen| {
+        seen.sound_held(|task| task.budget == task.deadline)
+    }),
+    ("sound, held D = T", |seen| {
+        seen.sound_held(|task| task.deadline == task.period)
+    }),
+    ("sound, held T 1,000,000", |seen| {
+        seen.sound_held(|task| task.period == 1_000_000)
+    }),
+    ("sound, held as a task of the table", |seen| {
+        let held = seen.before.offered;
+        seen.sound_held(|_| true) && seen.has_task(|task, _| Some(*task) == held)
+    }),
+    ("sound, held and refused by the window test", |seen| {
+        seen.sound_held(|_| true) && !seen.held_by_window()
+    }),
+    (
+        "sound, held and refused with a slot more of budget",
+        |seen| {
+            let within = seen.sound_held(|task| task.budget < task.deadline);
+            within && !seen.admits_held(|task| task.budget + 1, 0)
+        },
+    ),
+    (
+        "0 for 13 alone, admitted with a slot less of budget",
+        |seen| {
+            let at_13 = seen.held_fault() == Some(HELD_13);
+            at_13 && seen.admits_held(|task| task.budget - 1, 0)
+        },
+    ),
+    ("0 for 13 alone, admitted on a core more", |seen| {
+        let at_13 = seen.held_fault() == Some(HELD_13);
+        at_13 && seen.admits_held(|task| task.budget, 1)
+    }),
+    (
+        "0 for 13 alone, table admitted without the held task",
+        |seen| seen.held_fault() == Some(HELD_13) && seen.is_admitted(),
+    ),
+    ("0 for 13 alone, table not admitted without it", |seen| {
+        seen.held_fault() == Some(HELD_13) && !seen.is_admitted()
+    }),
+    ("0 for 12 alone, a task of the table held", |seen| {
+        let held = seen.before.offered;
+        seen.held_fault() == Some(HELD_12) && seen.has_task(|task, _| Some(*task) == held)
+    }),
+];
+
+// Entries past the count: no call reads them, and only a commit writes its own.
+const PAST: [Event; 21] = [
+    ("offer, entries past the count not 0", |seen| {
+        seen.is(OFFER, Answer::Done) && seen.past(|entry| *entry != Entry::ZERO)
+    }),
     ("release, entries past the count not 0", |seen| {
         seen.is(RELEASE, Answer::Done) && seen.past(|entry| *entry != Entry::ZERO)
     }),
@@ -371,23 +547,23 @@ const PAST: [Event; 20] = [
     ("finish of a job open past the count, refused", |seen| {
         seen.is(FINISH, Answer::Refused(8)) && seen.next_is(|entry| entry.job.open)
     }),
-    ("join over an entry of zeros", |seen| {
-        seen.joined(|own, _| *own == Entry::ZERO)
+    ("commit over an entry of zeros", |seen| {
+        seen.committed(|own, _| *own == Entry::ZERO)
     }),
-    ("join over a closed entry with a gap", |seen| {
-        seen.joined(|own, _| !own.job.open && own.job.gap > 0)
+    ("commit over a closed entry with a gap", |seen| {
+        seen.committed(|own, _| !own.job.open && own.job.gap > 0)
     }),
-    ("join over an open entry", |seen| {
-        seen.joined(|own, _| own.job.open)
+    ("commit over an open entry", |seen| {
+        seen.committed(|own, _| own.job.open)
     }),
-    ("join before entries that are not 0", |seen| {
-        seen.joined(|_, rest| rest.iter().any(|entry| *entry != Entry::ZERO))
+    ("commit before entries that are not 0", |seen| {
+        seen.committed(|_, rest| rest.iter().any(|entry| *entry != Entry::ZERO))
     }),
-    ("join to 31 tasks", |seen| {
-        seen.joined(|_, rest| rest.is_empty()) && seen.after.count == 32
+    ("commit to 31 tasks", |seen| {
+        seen.committed(|_, rest| rest.is_empty()) && seen.after.count == 32
     }),
-    ("join to 31 tasks, refused by 13", |seen| {
-        seen.before.count == 31 && seen.is(JOIN, Answer::Refused(13))
+    ("offer to 31 tasks, refused by 13", |seen| {
+        seen.before.count == 31 && seen.is(OFFER, Answer::Refused(13))
     }),
     ("slot, a core past the count", |seen| {
         seen.slot(|_| true) && seen.past(|entry| entry.job.core > 0)
@@ -409,8 +585,8 @@ const PAST: [Event; 20] = [
             if slot.assigned.iter().any(|core| past.contains(core)));
         given && seen.faults.is_empty()
     }),
-    ("join over an entry with a core", |seen| {
-        seen.joined(|own, _| own.job.core > 0)
+    ("commit over an entry with a core", |seen| {
+        seen.committed(|own, _| own.job.core > 0)
     }),
 ];
 
@@ -450,8 +626,9 @@ impl Seen {
     /// The first word of the call's line.
     pub fn name(&self) -> &'static str {
         match self.call {
+            Call::Commit => COMMIT,
             Call::Finish(_) => FINISH,
-            Call::Join(_) => JOIN,
+            Call::Offer(_) => OFFER,
             Call::Release(..) => RELEASE,
             Call::Slot(_) => SLOT,
             Call::Bad(line) => panic!("no call: {line}"),
@@ -578,6 +755,70 @@ impl Seen {
         admits(&table, self.before.cores)
     }
 
+    // The table with a task at its end.
+    fn with(&self, task: Task) -> Vec<Task> {
+        let table = self.table().iter().map(|entry| entry.task);
+        table.chain([task]).collect()
+    }
+
+    fn holds(&self) -> bool {
+        self.before.offered.is_some()
+    }
+
+    // A task is held, and no fault is its own.
+    fn holds_well(&self) -> bool {
+        let mut faults = self.faults.iter();
+        self.holds() && !faults.any(|fault| OF_THE_OFFER.contains(&fault.clause))
+    }
+
+    // The task that an offer names.
+    fn offer(&self) -> Option<Task> {
+        match self.call {
+            Call::Offer(task) => Some(task),
+            _ => None,
+        }
+    }
+
+    fn offers_held(&self) -> bool {
+        self.holds() && self.offer() == self.before.offered
+    }
+
+    fn is_refused_beside_held(&self) -> bool {
+        let (Some(task), Some(held)) = (self.offer(), self.before.offered) else {
+            return false;
+        };
+        let mut table = self.with(held);
+        table.push(task);
+        !admits(&table, self.before.cores)
+    }
+
+    // What is wrong with the held task, if nothing else is.
+    fn held_fault(&self) -> Option<&'static str> {
+        let clause = self.alone()?.clause;
+        OF_THE_OFFER.contains(&clause).then_some(clause)
+    }
+
+    fn sound_held(&self, so: fn(&Task) -> bool) -> bool {
+        self.faults.is_empty() && self.before.offered.is_some_and(|task| so(&task))
+    }
+
+    fn held_by_window(&self) -> bool {
+        let held = self.before.offered;
+        held.is_some_and(|task| window::admits(&self.with(task), self.before.cores))
+    }
+
+    // Whether a held task that fits would be admitted with this budget on so many cores
+    // more.
+    fn admits_held(&self, budget: fn(&Task) -> u32, more: u32) -> bool {
+        let cores = self.before.cores + more;
+        let other = |task: Task| Task {
+            budget: budget(&task),
+            ..task
+        };
+        let held = self.before.offered.map(other);
+        held.is_some_and(|task| admits(&self.with(task), cores))
+    }
+
     fn past(&self, so: fn(&Entry) -> bool) -> bool {
         self.before.entries[self.table().len()..].iter().any(so)
     }
@@ -591,17 +832,19 @@ impl Seen {
         number == self.before.count + 1 && next.is_some_and(so)
     }
 
-    // An accepted join, by the entry that it wrote over and those after it.
-    fn joined(&self, so: fn(&Entry, &[Entry]) -> bool) -> bool {
+    // An accepted commit, by the entry that it wrote over and those after it.
+    fn committed(&self, so: fn(&Entry, &[Entry]) -> bool) -> bool {
         let past = &self.before.entries[self.table().len()..];
         let split = past.split_first();
-        self.is(JOIN, Answer::Done) && split.is_some_and(|(own, rest)| so(own, rest))
+        self.is(COMMIT, Answer::Done) && split.is_some_and(|(own, rest)| so(own, rest))
     }
 }
 
 // Every event on a machine and its call.
 fn events() -> impl Iterator<Item = &'static Event> {
-    let lists: [&'static [Event]; 6] = [&GAPS, &LIMITS, &JOBS, &RECORDS, &NEEDS, &PAST];
+    let lists: [&'static [Event]; 10] = [
+        &GAPS, &LIMITS, &JOBS, &RECORDS, &NEEDS, &OFFERS, &COMMITS, &HOLDING, &HELD, &PAST,
+    ];
     lists.into_iter().flatten()
 }
 

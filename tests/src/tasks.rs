@@ -1,6 +1,8 @@
 //! Tasks, their limits and refusals: document 01, "What belongs to it" and
 //! "Why a call is not carried out".
 
+use std::fmt;
+
 pub const MOST_TASKS: usize = 32;
 pub const MOST_CORES: u32 = 16;
 pub const LONGEST_PERIOD: u32 = 1_000_000;
@@ -29,6 +31,18 @@ impl Task {
             && self.budget <= self.deadline
             && self.deadline <= self.period
             && self.period <= LONGEST_PERIOD
+    }
+}
+
+// T C D, as calls and machines write a task.
+impl fmt::Display for Task {
+    fn fmt(&self, line: &mut fmt::Formatter) -> fmt::Result {
+        let Task {
+            period,
+            budget,
+            deadline,
+        } = self;
+        write!(line, "{period} {budget} {deadline}")
     }
 }
 

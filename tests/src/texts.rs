@@ -25,7 +25,7 @@ const DAMAGES: [Damage; 14] = [
     change_byte,
     cut,
     double_part,
-    join_another,
+    add_another,
     insert_byte,
     insert_byte,
     remove_byte,
@@ -240,7 +240,7 @@ fn double_part(random: &mut Random, text: &mut Vec<u8>) {
 }
 
 // The other text comes whole or without its names line.
-fn join_another(random: &mut Random, text: &mut Vec<u8>) {
+fn add_another(random: &mut Random, text: &mut Vec<u8>) {
     let other = valid(random);
     let names = write(&[], ORDERS[0]).len();
     let from = random.pick(&[0, names]);

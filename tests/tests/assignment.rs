@@ -39,6 +39,7 @@ fn machine(open: usize, cores: [u32; TASKS]) -> Machine {
         table: vec![Task::new(9, 3, 8); TASKS],
         cores: 1,
         jobs: (0..TASKS).map(job).collect(),
+        offered: None,
     }
 }
 

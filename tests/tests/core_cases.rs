@@ -2,12 +2,12 @@
 //! has, and what the machine records, by the simulated machine and by the programs. An
 //! entry is written as its line: T C D, open, left, budget still owed, gap, core.
 
-use edzl_tests::probe_check::{Line, check, check_unsound, machine};
+use edzl_tests::probe_check::{Line, check, check_unsound, holding, machine};
 use edzl_tests::script::{Call, MOST_SCRIPT_BYTES};
 use edzl_tests::sessions;
 use edzl_tests::tasks::Task;
 
-use Call::{Finish, Join, Release, Slot};
+use Call::{Commit, Finish, Offer, Release, Slot};
 
 // A closed task that is due, and an open job of left 9 and budget 4.
 const DUE: Line = [20, 5, 10, 0, 0, 0, 0, 0];
@@ -174,24 +174,24 @@ fn a_task_that_waits_for_a_slot() {
     check_calls(1, &table, &calls, expected);
 }
 
-// A join between two slots: task 2 keeps core 2, and the task that joined has none
-// until it takes core 1.
+// A commit between two slots: task 2 keeps core 2, and the added task has none until it
+// takes core 1.
 #[test]
-fn a_join_between() {
+fn a_commit_between() {
     let table = [Task::new(20, 5, 10); 2];
-    let mut calls = vec![Release(1, 5), Release(2, 5), Slot(2), Finish(1)];
-    calls.extend([Join(Task::new(20, 1, 20)), Slot(2), Release(3, 1), Slot(2)]);
-    let expected = "DONE\nDONE\n3 0 0 2 1 2\nDONE\nDONE\n2 0 0 1 2\nDONE\n6 4 0 2 2 1\n";
+    let mut calls = vec![Release(1, 5), Offer(Task::new(20, 1, 20)), Release(2, 5)];
+    calls.extend([Slot(2), Finish(1), Commit, Slot(2), Release(3, 1), Slot(2)]);
+    let expected = "DONE\nDONE\nDONE\n3 0 0 2 1 2\nDONE\nDONE\n2 0 0 1 2\nDONE\n6 4 0 2 2 1\n";
     check_calls(2, &table, &calls, expected);
 }
 
 // It keeps every record and writes 0 into its own entry, whatever stood there.
 #[test]
-fn the_record_after_a_join() {
-    let (held, past) = (on_core(OPEN, 2), [7, 7, 7, 1, 7, 7, 7, 9]);
-    let before = machine(1, 2, &[held, past, past]);
-    let after = machine(2, 2, &[held, [20, 1, 20, 0, 0, 0, 0, 0], past]);
-    check(&before, Join(Task::new(20, 1, 20)), "DONE", &after);
+fn the_record_after_a_commit() {
+    let (open, past) = (on_core(OPEN, 2), [7, 7, 7, 1, 7, 7, 7, 9]);
+    let before = holding(machine(1, 2, &[open, past, past]), [20, 1, 20]);
+    let after = machine(2, 2, &[open, [20, 1, 20, 0, 0, 0, 0, 0], past]);
+    check(&before, Commit, "DONE", &after);
 }
 
 // A k below m or above 16 is no slot: task 2 keeps core 2 past it.
@@ -214,8 +214,9 @@ fn the_record_after_refused_calls() {
     check_left(2, &lines, Release(3, 5), "REFUSED 8");
     check_left(2, &lines, Finish(2), "REFUSED 11");
     check_left(2, &lines, Finish(0), "REFUSED 8");
-    check_left(2, &lines, Join(Task::new(4, 5, 4)), "REFUSED 5");
-    check_left(1, &lines, Join(Task::new(10, 10, 10)), "REFUSED 13");
+    check_left(2, &lines, Offer(Task::new(4, 5, 4)), "REFUSED 5");
+    check_left(1, &lines, Offer(Task::new(10, 10, 10)), "REFUSED 13");
+    check_left(2, &lines, Commit, "REFUSED 17");
 }
 
 #[test]

@@ -6,7 +6,7 @@ use edzl_tests::script::{Call, Script};
 use edzl_tests::sessions;
 use edzl_tests::tasks::Task;
 
-use Call::{Finish, Join, Release, Slot};
+use Call::{Commit, Finish, Offer, Release, Slot};
 
 // Tasks on 1 core. What they are plays no part: the check reads no table.
 fn script(calls: &[Call]) -> Script {
@@ -50,7 +50,7 @@ fn a_keeper_that_leaves_its_core() {
     assert_eq!(slots(&moved), broken(2, "task 2 leaves core 2"));
 }
 
-// Releases, finishes, joins and refused calls leave the slot before what it was.
+// Releases, finishes, offers, commits and refused calls leave the slot before what it was.
 #[test]
 fn calls_between_two_slots() {
     let calls = [
@@ -58,13 +58,15 @@ fn calls_between_two_slots() {
         Slot(0),
         Finish(1),
         Release(1, 9),
-        Join(Task::new(9, 1, 9)),
+        Offer(Task::new(9, 1, 9)),
+        Commit,
+        Commit,
         Slot(2),
     ];
-    let printed = "3 1 0 2 1 2\nREFUSED 14\nREFUSED 11\nDONE\nDONE\n2 0 0 1 2\n";
+    let printed = "3 1 0 2 1 2\nREFUSED 14\nREFUSED 11\nDONE\nDONE\nDONE\nREFUSED 17\n2 0 0 1 2\n";
     assert_eq!(check(&script(&calls), printed), assigned(1, 0, 0));
     let moved = printed.replace("2 0 0 1 2", "2 0 0 1 1");
-    let expected = broken(6, "task 2 leaves core 2");
+    let expected = broken(8, "task 2 leaves core 2");
     assert_eq!(check(&script(&calls), &moved), expected);
 }
 

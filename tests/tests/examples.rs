@@ -84,15 +84,15 @@ fn ranges() {
 fn scripts() {
     check_script(
         "calls.replay",
-        "DONE\nDONE\nDONE\n7 1 0 3 1 2 3\nREFUSED 9\nDONE\nDONE\nDONE\nREFUSED 14\n12 8 0 2 3 1\nREFUSED 5\n4 4 0 1 3\n",
+        "DONE\nDONE\nDONE\n7 1 0 3 1 2 3\nREFUSED 9\nDONE\nDONE\nDONE\nDONE\nREFUSED 14\n12 8 0 2 3 1\nREFUSED 5\nREFUSED 17\n4 4 0 1 3\n",
     );
     check_script(
         "case_j.replay",
         "DONE\nDONE\nDONE\n3 0 0 2 1 2\n5 1 0 2 1 2\n6 2 0 2 1 2\n4 0 0 1 2\n4 0 0 1 2\n4 4 0 1 2\n",
     );
     check_script(
-        "joins.replay",
-        "DONE\nREFUSED 13\nDONE\nDONE\nDONE\nDONE\n3 3 0 2 1 2\n12 4 0 2 1 2\nDONE\nDONE\n3 3 0 2 1 2\n8 0 0 1 1\nDONE\nDONE\n3 3 0 2 1 2\n8 8 0 1 1\nDONE\n",
+        "offers.replay",
+        "DONE\nDONE\nREFUSED 13\nDONE\nDONE\nDONE\nDONE\n3 3 0 2 1 2\n12 4 0 2 1 2\nDONE\nDONE\n3 3 0 2 1 2\n8 0 0 1 1\nDONE\nDONE\n3 3 0 2 1 2\n8 8 0 1 1\nDONE\nDONE\n",
     );
     check_script(
         "needs.replay",
@@ -100,7 +100,7 @@ fn scripts() {
     );
     check_script(
         "refusals.replay",
-        "REFUSED 8\nREFUSED 8\nREFUSED 15\nREFUSED 15\nREFUSED 11\nDONE\nREFUSED 15\nREFUSED 9\nDONE\nREFUSED 11\nREFUSED 9\nREFUSED 5\nREFUSED 13\nREFUSED 14\nREFUSED 14\n0 0 0 0\n",
+        "REFUSED 8\nREFUSED 8\nREFUSED 15\nREFUSED 15\nREFUSED 11\nDONE\nREFUSED 15\nREFUSED 9\nDONE\nREFUSED 11\nREFUSED 9\nREFUSED 5\nREFUSED 13\nREFUSED 17\nREFUSED 14\nREFUSED 14\n0 0 0 0\n",
     );
     check_script(
         "ties.replay",
@@ -114,7 +114,7 @@ fn machines() {
     let zeros = "0 0 0 0 0 0 0 0\n".repeat(31);
     check_machine(
         "probe.machine",
-        &format!("REFUSED 0\nMACHINE 1 1\n6 3 5 1 4 2 3 0\n{zeros}"),
+        &format!("REFUSED 0\nMACHINE 1 1\n6 3 5 1 4 2 3 0\n{zeros}NONE\n"),
     );
 }
 

@@ -61,7 +61,7 @@ const CALLS: [Case; 19] = [
         "RELEASE 0 1\nFINISH 0\n",
         "REFUSED 8\nREFUSED 8\n",
     ),
-    ("a task of zeros", "JOIN 0 0 0\n", "REFUSED 5\n"),
+    ("a task of zeros", "OFFER 0 0 0\n", "REFUSED 5\n"),
     (
         "another word",
         "SLOT 1\nSTOP\nSLOT 1\n",
@@ -76,8 +76,8 @@ const CALLS: [Case; 19] = [
     ("a letter less", "RELEAS 1 1\n", "BAD LINE 6\n"),
     ("no number", "RELEASE\n", "BAD LINE 6\n"),
     ("two numbers", "FINISH 1 2\n", "BAD LINE 6\n"),
-    ("two values of a task", "JOIN 4 1\n", "BAD LINE 6\n"),
-    ("four values of a task", "JOIN 4 1 4 4\n", "BAD LINE 6\n"),
+    ("two values of a task", "OFFER 4 1\n", "BAD LINE 6\n"),
+    ("four values of a task", "OFFER 4 1 4 4\n", "BAD LINE 6\n"),
     ("a leading zero", "RELEASE 01 1\n", "BAD LINE 6\n"),
     ("a sign", "RELEASE +1 1\n", "BAD LINE 6\n"),
     ("no digit", "FINISH x\n", "BAD LINE 6\n"),
@@ -92,8 +92,86 @@ const CALLS: [Case; 19] = [
     ),
     (
         "the largest task",
-        "JOIN 4294967295 4294967295 4294967295\n",
+        "OFFER 4294967295 4294967295 4294967295\n",
         "REFUSED 5\n",
+    ),
+];
+
+// Offers and commits after START. On 1 core 90 1 90 is taken beside the two tasks, and
+// 9 9 9, which has no spare, is not.
+const OFFERS: [Case; 37] = [
+    ("offer, no value", "OFFER\n", "BAD LINE 6\n"),
+    ("offer, a space and no value", "OFFER \n", "BAD LINE 6\n"),
+    ("offer, one value", "OFFER 90\n", "BAD LINE 6\n"),
+    ("offer, a space after two", "OFFER 90 1 \n", "BAD LINE 6\n"),
+    (
+        "offer, a trailing space",
+        "OFFER 90 1 90 \n",
+        "BAD LINE 6\n",
+    ),
+    ("offer, two spaces", "OFFER 90 1  90\n", "BAD LINE 6\n"),
+    (
+        "offer, two spaces first",
+        "OFFER  90 1 90\n",
+        "BAD LINE 6\n",
+    ),
+    ("offer, no space", "OFFER90 1 90\n", "BAD LINE 6\n"),
+    ("offer, a tab", "OFFER 90\t1 90\n", "BAD LINE 6\n"),
+    ("offer, byte 13", "OFFER 90 1 90\r\n", "BAD LINE 6\n"),
+    ("offer, a leading zero", "OFFER 90 01 90\n", "BAD LINE 6\n"),
+    ("offer, two zeros", "OFFER 90 1 00\n", "BAD LINE 6\n"),
+    ("offer, a sign", "OFFER 90 +1 90\n", "BAD LINE 6\n"),
+    ("offer, no digit", "OFFER T C D\n", "BAD LINE 6\n"),
+    (
+        "offer, above 32 bits",
+        "OFFER 4294967296 1 90\n",
+        "BAD LINE 6\n",
+    ),
+    (
+        "offer, 11 digits",
+        "OFFER 90 1 10000000000\n",
+        "BAD LINE 6\n",
+    ),
+    ("offer, a letter more", "OFFERS 90 1 90\n", "BAD LINE 6\n"),
+    ("offer, a letter less", "OFFE 90 1 90\n", "BAD LINE 6\n"),
+    ("offer, lower case", "offer 90 1 90\n", "BAD LINE 6\n"),
+    ("offer, not ended", "OFFER 90 1 90", "BAD LINE 6\n"),
+    (
+        "offer, then no call",
+        "OFFER 90 1 90\nNONE\n",
+        "DONE\nBAD LINE 7\n",
+    ),
+    ("offer, 10 digits", "OFFER 1000000000 1 90\n", "REFUSED 5\n"),
+    ("commit, a trailing space", "COMMIT \n", "BAD LINE 6\n"),
+    ("commit, a leading space", " COMMIT\n", "BAD LINE 6\n"),
+    ("commit, a number", "COMMIT 1\n", "BAD LINE 6\n"),
+    ("commit, a task", "COMMIT 90 1 90\n", "BAD LINE 6\n"),
+    ("commit, byte 13", "COMMIT\r\n", "BAD LINE 6\n"),
+    ("commit, byte 0", "COMMIT\0\n", "BAD LINE 6\n"),
+    ("commit, a letter more", "COMMITS\n", "BAD LINE 6\n"),
+    ("commit, a letter less", "COMMI\n", "BAD LINE 6\n"),
+    ("commit, lower case", "commit\n", "BAD LINE 6\n"),
+    ("commit, not ended", "COMMIT", "BAD LINE 6\n"),
+    (
+        "commit, none held",
+        "COMMIT\nCOMMIT 1\n",
+        "REFUSED 17\nBAD LINE 7\n",
+    ),
+    (
+        "commit, a held task",
+        "OFFER 90 1 90\nCOMMIT\nRELEASE 3 1\nCOMMIT\n",
+        "DONE\nDONE\nDONE\nREFUSED 17\n",
+    ),
+    (
+        "commit, a refused offer",
+        "OFFER 9 9 9\nCOMMIT\nRELEASE 3 9\n",
+        "REFUSED 13\nREFUSED 17\nREFUSED 8\n",
+    ),
+    ("a task that joins", "JOIN 90 1 90\n", "BAD LINE 6\n"),
+    (
+        "a held task",
+        "OFFER 90 1 90\nHELD 90 1 90\n",
+        "DONE\nBAD LINE 7\n",
     ),
 ];
 
@@ -307,6 +385,7 @@ fn scripts_and_calls() {
     check("", &SCRIPTS);
     check(START, &CALLS);
     check(START, &RELEASES);
+    check(START, &OFFERS);
     check(START, &SLOTS);
 }
 

@@ -88,7 +88,7 @@ fn endless_input_after_a_call() {
     let machine = Path::new(env!("CARGO_MANIFEST_DIR")).join("../examples/probe.machine");
     let endless = format!("{{ cat \"{}\"; yes; }} |", machine.display());
     let printed = through_shell(&path("PROBE", "probe"), &endless, "");
-    assert_eq!(printed, b"BAD LINE 35\n");
+    assert_eq!(printed, b"BAD LINE 36\n");
 }
 
 // The text in pieces of this many bytes, with a pause after each.
@@ -124,8 +124,8 @@ fn pieces_make_one_text() {
     let replay = in_pieces(&path("REPLAY", "replay"), &script, 5);
     assert_eq!(replay, b"DONE\n1 1 0 1 1\n");
     let zeros = "0 0 0 0 0 0 0 0\n".repeat(31);
-    let text = format!("MACHINE 1 1\n9 2 5 1 5 2 9 0\n{zeros}SLOT 1\n");
-    let printed = format!("1 0 0 1 1\nMACHINE 1 1\n9 2 5 1 4 1 8 1\n{zeros}");
+    let text = format!("MACHINE 1 1\n9 2 5 1 5 2 9 0\n{zeros}NONE\nSLOT 1\n");
+    let printed = format!("1 0 0 1 1\nMACHINE 1 1\n9 2 5 1 4 1 8 1\n{zeros}NONE\n");
     for size in [1, 13, 100] {
         let probe = in_pieces(&path("PROBE", "probe"), text.as_bytes(), size);
         assert_eq!(probe, printed.as_bytes());

@@ -1,7 +1,8 @@
 //! The simulated machine by itself, on machines made by hand: number 0, which no
 //! list of calls from a start can meet (document 01, "Why a call is not carried
-//! out", with changes 3 and 4 of document 02), refusals that leave the machine as it
-//! was, releases of every need, and precedence at the limits of left and budget.
+//! out", with changes 3, 4 and 10 of document 02), refusals that leave the machine as it
+//! was, releases of every need, offers and commits, and precedence at the limits of left
+//! and budget.
 
 use std::collections::BTreeMap;
 
@@ -31,11 +32,12 @@ fn machine(job: Job) -> Machine {
         table: vec![Task::new(9, 2, 5)],
         cores: 1,
         jobs: vec![job],
+        offered: None,
     }
 }
 
-// The refusal numbers of release, finish, slot and join, all on the same machine.
-fn refusals(machine: &Machine) -> [Option<u32>; 4] {
+// The refusal numbers of release, finish, slot, offer and commit, all on the same machine.
+fn refusals(machine: &Machine) -> [Option<u32>; 5] {
     let number = |refusal: Refusal| {
         assert_eq!(refusal.place, 0);
         refusal.number
@@ -44,7 +46,8 @@ fn refusals(machine: &Machine) -> [Option<u32>; 4] {
         machine.clone().release(2, 0).err().map(number),
         machine.clone().finish(2).err().map(number),
         machine.clone().slot(0).err().map(number),
-        machine.clone().join(Task::new(9, 0, 5)).err().map(number),
+        machine.clone().offer(Task::new(9, 0, 5)).err().map(number),
+        machine.clone().commit().err().map(number),
     ]
 }
 
@@ -70,7 +73,7 @@ fn number_0_comes_before_all_others() {
         on_core(CLOSED, u32::MAX),
     ];
     for job in unsound {
-        assert_eq!(refusals(&machine(job)), [Some(0); 4], "{job:?}");
+        assert_eq!(refusals(&machine(job)), [Some(0); 5], "{job:?}");
     }
 }
 
@@ -85,7 +88,7 @@ fn number_0_for_what_no_start_takes() {
     machines[4].table = vec![Task::new(9, 2, 5); 33];
     machines[4].jobs = vec![CLOSED; 33];
     for machine in machines {
-        assert_eq!(refusals(&machine), [Some(0); 4], "{machine:?}");
+        assert_eq!(refusals(&machine), [Some(0); 5], "{machine:?}");
     }
 }
 
@@ -108,7 +111,7 @@ fn sound_machines_at_the_limits() {
         on_core(OPEN, 16),
     ];
     for job in sound {
-        let expected = [Some(8), Some(8), Some(14), Some(5)];
+        let expected = [Some(8), Some(8), Some(14), Some(5), Some(17)];
         assert_eq!(refusals(&machine(job)), expected, "{job:?}");
         assert!(machine(job).slot(1).is_ok(), "{job:?}");
     }
@@ -178,6 +181,7 @@ fn precedence_of_two_jobs() {
             table: vec![Task::new(most, most, most); 2],
             cores: 1,
             jobs: jobs.to_vec(),
+            offered: None,
         };
         let slot = machine.slot(1).expect("a slot");
         assert_eq!(slot.ran, runner, "{one:?} and {other:?}");
@@ -229,19 +233,71 @@ fn the_record_after_a_release() {
     }
 }
 
+// Number 0 for a held task that an offer would refuse by 5, by 13 and by 12. One that it
+// would take is sound: 5 5 5 beside 9 2 5 on 2 cores, and a light one beside 31 tasks.
 #[test]
-fn refusals_of_a_join_in_their_order() {
+fn number_0_for_a_held_task() {
+    let holding = |cores: u32, task: Task| Machine {
+        cores,
+        offered: Some(task),
+        ..machine(OPEN)
+    };
+    for task in [(9, 0, 5), (9, 6, 5), (4, 2, 5), (1_000_001, 2, 5)] {
+        let (period, budget, deadline) = task;
+        let unsound = holding(2, Task::new(period, budget, deadline));
+        assert_eq!(refusals(&unsound), [Some(0); 5], "{task:?}");
+    }
+    assert_eq!(refusals(&holding(1, Task::new(5, 5, 5))), [Some(0); 5]);
+    let sound = [Some(8), Some(8), Some(14), Some(5), None];
+    assert_eq!(refusals(&holding(2, Task::new(5, 5, 5))), sound);
+    let light = Task::new(1_000, 1, 1_000);
+    let beside_31 = [Some(15), Some(11), Some(14), Some(5), None];
+    for (tasks, expected) in [(31, beside_31), (32, [Some(0); 5])] {
+        let mut wide = Machine::start(&vec![light; tasks], 16).expect("a start");
+        wide.offered = Some(light);
+        assert_eq!(refusals(&wide), expected, "{tasks} tasks");
+    }
+}
+
+#[test]
+fn refusals_of_an_offer_in_their_order() {
     let light = Task::new(1_000, 1, 1_000);
     let mut full = Machine::start(&[light; 32], 16).expect("a start");
     let before = full.clone();
-    assert_eq!(full.join(Task::new(4, 5, 4)), Err(Refusal::whole(5)));
-    assert_eq!(full.join(Task::new(4, 4, 4)), Err(Refusal::whole(12)));
+    assert_eq!(full.offer(Task::new(4, 5, 4)), Err(Refusal::whole(5)));
+    assert_eq!(full.offer(Task::new(4, 4, 4)), Err(Refusal::whole(12)));
     assert_eq!(full, before);
     let mut heavy = Machine::start(&[Task::new(5, 5, 5)], 1).expect("a start");
     let before = heavy.clone();
-    assert_eq!(heavy.join(Task::new(5, 5, 6)), Err(Refusal::whole(5)));
-    assert_eq!(heavy.join(Task::new(5, 5, 5)), Err(Refusal::whole(13)));
+    assert_eq!(heavy.offer(Task::new(5, 5, 6)), Err(Refusal::whole(5)));
+    assert_eq!(heavy.offer(Task::new(5, 5, 5)), Err(Refusal::whole(13)));
+    assert_eq!(heavy.commit(), Err(Refusal::whole(17)));
     assert_eq!(heavy, before);
+}
+
+// An accepted offer changes what is held and nothing else, a refused one nothing at all,
+// and a commit adds the task at the end: closed, its gap 0, without a core.
+#[test]
+fn the_machine_after_offers_and_a_commit() {
+    let (one, other) = (Task::new(20, 1, 20), Task::new(30, 2, 30));
+    let before = machine(on_core(OPEN, 3));
+    let mut after = before.clone();
+    for task in [one, other] {
+        assert_eq!(after.offer(task), Ok(()));
+        let holding = Machine {
+            offered: Some(task),
+            ..before.clone()
+        };
+        assert_eq!(after, holding);
+        for refused in [Task::new(9, 6, 5), Task::new(5, 5, 5)] {
+            assert!(after.offer(refused).is_err());
+            assert_eq!(after, holding);
+        }
+    }
+    assert_eq!(after.commit(), Ok(()));
+    assert_eq!(after.table, [before.table[0], other]);
+    assert_eq!(after.jobs, [on_core(OPEN, 3), CLOSED]);
+    assert_eq!((after.cores, after.offered), (1, None));
 }
 
 // A start refuses what judging refuses, and takes refused tables.
@@ -256,6 +312,7 @@ fn starts() {
     assert_eq!(Machine::start(&[task], 0).err(), Some(Refusal::whole(7)));
     let machine = Machine::start(&[task; 2], 1).expect("a start on a refused table");
     assert_eq!(machine.jobs, [CLOSED; 2]);
+    assert_eq!(machine.offered, None);
 }
 
 // The budget of a job that closes in its last slot is 0: finished, not late.

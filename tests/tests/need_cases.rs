@@ -9,7 +9,7 @@ use edzl_tests::script::Call;
 use edzl_tests::sessions;
 use edzl_tests::tasks::Task;
 
-use Call::{Finish, Join, Release, Slot};
+use Call::{Commit, Finish, Offer, Release, Slot};
 
 const LONGEST: u32 = 1_000_000;
 
@@ -304,17 +304,18 @@ fn a_release_right_after_number_15() {
     check_calls(1, &[Task::new(4, 3, 4)], &calls, expected);
 }
 
-// The joined task takes 1 to its own C, 3. 10,2 and 10,1: task 1. 9,1 and 9,1: task 1.
-// A task whose join is refused is none.
+// The added task takes 1 to its own C, 3. 10,2 and 10,1: task 1. 9,1 and 9,1: task 1.
+// Before the commit, and where the offer is refused, there is no such task.
 #[test]
-fn a_joined_task_released_with_a_smaller_need() {
-    let mut calls = vec![Release(2, 1), Join(Task::new(20, 3, 10)), Release(2, 4)];
-    calls.extend([Release(2, 0), Release(1, 3), Release(1, 2), Release(2, 1)]);
-    calls.extend([Join(Task::new(9, 9, 9)), Release(3, 9), Release(3, 0)]);
-    calls.extend([Slot(1); 4]);
-    let expected = "REFUSED 8\nDONE\nREFUSED 15\n\
-        REFUSED 15\nREFUSED 15\nDONE\nDONE\n\
-        REFUSED 13\nREFUSED 8\nREFUSED 8\n\
+fn an_added_task_released_with_a_smaller_need() {
+    let mut calls = vec![Offer(Task::new(20, 3, 10)), Release(2, 1), Commit];
+    calls.extend([Release(2, 4), Release(2, 0), Release(1, 3), Release(1, 2)]);
+    calls.extend([Release(2, 1), Offer(Task::new(9, 9, 9)), Release(3, 9)]);
+    calls.extend([Release(3, 0), Slot(1), Slot(1), Slot(1), Slot(1)]);
+    let expected = "DONE\nREFUSED 8\nDONE\n\
+        REFUSED 15\nREFUSED 15\nREFUSED 15\nDONE\n\
+        DONE\nREFUSED 13\nREFUSED 8\n\
+        REFUSED 8\n\
         1 0 0 1 1\n1 1 0 1 1\n2 2 0 1 1\n0 0 0 0\n";
     check_calls(1, &[Task::new(20, 2, 10)], &calls, expected);
 }

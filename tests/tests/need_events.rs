@@ -6,7 +6,7 @@ use edzl_tests::script::Call;
 use edzl_tests::sessions::script;
 use edzl_tests::tasks::Task;
 
-use Call::{Finish, Join, Release, Slot};
+use Call::{Commit, Finish, Offer, Release, Slot};
 
 // All events that are met in these calls on 1 core, each as often as it is given.
 fn check_met(table: &[Task], calls: &[Call], events: &[&str]) {
@@ -109,12 +109,13 @@ fn a_release_after_number_15() {
 }
 
 #[test]
-fn a_joined_task_and_a_finish() {
-    let calls = [Join(Task::new(40, 3, 40)), Release(2, 2), Finish(2)];
+fn an_added_task_and_a_finish() {
+    let offer = Offer(Task::new(40, 3, 40));
+    let calls = [offer, Commit, Release(2, 2), Finish(2)];
     let expected = [
         "a release with e below C",
         "a release with e = C − 1 above 1",
-        "a release of a joined task with e below C",
+        "a release of an added task with e below C",
         "a finish of a job of e below C",
     ];
     check_met(&[Task::new(40, 3, 40)], &calls, &expected);

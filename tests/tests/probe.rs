@@ -7,27 +7,30 @@ use std::collections::{BTreeMap, BTreeSet};
 use std::io::{Write, stdout};
 use std::ops::Range;
 
-use edzl_tests::faults::{Fault, OF_A_TASK, WHOLE};
+use edzl_tests::faults::{Fault, HELD_12, HELD_13, OF_A_TASK, OF_THE_OFFER, WHOLE};
 use edzl_tests::probe::{Probe, output};
 use edzl_tests::probes::{IN_A_GROUP, group};
 use edzl_tests::script::Answer;
-use edzl_tests::seen::{FINISH, JOIN, RELEASE, SLOT, Seen, names};
+use edzl_tests::seen::{COMMIT, FINISH, OFFER, RELEASE, SLOT, Seen, names};
 use edzl_tests::{parts, program, settings};
 
 const PROBES: u64 = 50_000;
 
 // Every kind of answer that can happen, and no other may: number 10 is among the
 // others.
-const KINDS: [&str; 17] = [
+const KINDS: [&str; 20] = [
+    "COMMIT DONE",
+    "COMMIT REFUSED 0",
+    "COMMIT REFUSED 17",
     "FINISH DONE",
     "FINISH REFUSED 0",
     "FINISH REFUSED 11",
     "FINISH REFUSED 8",
-    "JOIN DONE",
-    "JOIN REFUSED 0",
-    "JOIN REFUSED 12",
-    "JOIN REFUSED 13",
-    "JOIN REFUSED 5",
+    "OFFER DONE",
+    "OFFER REFUSED 0",
+    "OFFER REFUSED 12",
+    "OFFER REFUSED 13",
+    "OFFER REFUSED 5",
     "RELEASE DONE",
     "RELEASE REFUSED 0",
     "RELEASE REFUSED 15",
@@ -38,10 +41,14 @@ const KINDS: [&str; 17] = [
     "SLOT REFUSED 14",
 ];
 
-// Clauses that fail by 1 and never by more: a number that is 0.
-const BY_ONE_ONLY: [&str; 5] = [
+// Clauses that fail by 1 and never by more: a number that is 0, and those of a held task
+// that are not about its numbers.
+const BY_ONE_ONLY: [&str; 8] = [
     "C 0",
     "count 0",
+    "held C 0",
+    HELD_12,
+    HELD_13,
     "m 0",
     "open with budget 0",
     "open with left 0",
@@ -140,8 +147,8 @@ impl Tally {
 // and of a task the first and the last of several.
 fn clauses_to_meet() -> BTreeSet<String> {
     let mut names = BTreeSet::new();
-    for clause in WHOLE.iter().chain(&OF_A_TASK) {
-        let mut parts = vec![FINISH, JOIN, RELEASE, SLOT, "by 1"];
+    for clause in WHOLE.iter().chain(&OF_A_TASK).chain(&OF_THE_OFFER) {
+        let mut parts = vec![COMMIT, FINISH, OFFER, RELEASE, SLOT, "by 1"];
         if !BY_ONE_ONLY.contains(clause) {
             parts.push("by more");
         }

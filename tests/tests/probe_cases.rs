@@ -3,11 +3,11 @@
 //! written as its line: T C D, open, left, budget still owed, gap, core.
 
 use edzl_tests::probe::Probe;
-use edzl_tests::probe_check::{Line, check, check_unsound, machine};
+use edzl_tests::probe_check::{Line, check, check_unsound, holding, machine};
 use edzl_tests::script::Call;
 use edzl_tests::tasks::Task;
 
-use Call::{Finish, Join, Release, Slot};
+use Call::{Commit, Finish, Offer, Release, Slot};
 
 // One task on 1 core: its entry before the call and after it.
 fn check_one(before: Line, call: Call, answer: &str, after: Line) {
@@ -48,9 +48,11 @@ fn an_open_job_with_a_gap_equal_to_its_left() {
     check_one(line, Release(1, 3), "REFUSED 9", line);
     check_one(line, Finish(1), "DONE", [6, 3, 5, 0, 0, 0, 4, 0]);
     check_one(line, Slot(1), "1 0 0 1 1", [6, 3, 5, 1, 3, 1, 3, 1]);
-    let joined = [line, [90, 1, 90, 0, 0, 0, 0, 0]];
-    let (before, after) = (machine(1, 2, &[line]), machine(2, 2, &joined));
-    check(&before, Join(Task::new(90, 1, 90)), "DONE", &after);
+    let added = [line, [90, 1, 90, 0, 0, 0, 0, 0]];
+    let before = machine(1, 2, &[line]);
+    let held = holding(before.clone(), [90, 1, 90]);
+    check(&before, Offer(Task::new(90, 1, 90)), "DONE", &held);
+    check(&held, Commit, "DONE", &machine(2, 2, &added));
 }
 
 // Gaps 4 and 9 at left 3, where calls would leave 3 + (9 − 5): both are sound.
@@ -150,15 +152,143 @@ fn a_gap_below_left_past_the_count() {
     check(&before, Release(2, 3), "REFUSED 8", &before);
 }
 
-// The join writes its own entry whole, and keeps the one after it.
+// The commit writes its own entry whole, and keeps the one after it. The offer keeps both,
+// and a refused one keeps what is held too.
 #[test]
-fn a_join_over_an_entry_that_is_not_0() {
+fn a_commit_over_an_entry_that_is_not_0() {
     let (task, last) = ([20, 2, 10, 0, 0, 0, 0, 7], [1, 2, 3, 1, 4, 5, 6, 17]);
-    let before = machine(1, 1, &[task, [7, 7, 7, 1, 7, 7, 7, 7], last]);
+    let none = machine(1, 1, &[task, [7, 7, 7, 1, 7, 7, 7, 7], last]);
+    let held = holding(none.clone(), [20, 3, 10]);
+    check(&none, Offer(Task::new(20, 3, 10)), "DONE", &held);
+    for before in [&none, &held] {
+        check(before, Offer(Task::new(20, 11, 10)), "REFUSED 5", before);
+        check(before, Offer(Task::new(10, 10, 10)), "REFUSED 13", before);
+    }
     let after = machine(2, 1, &[task, [20, 3, 10, 0, 0, 0, 0, 0], last]);
-    check(&before, Join(Task::new(20, 3, 10)), "DONE", &after);
-    check(&before, Join(Task::new(20, 11, 10)), "REFUSED 5", &before);
-    check(&before, Join(Task::new(10, 10, 10)), "REFUSED 13", &before);
+    check(&held, Commit, "DONE", &after);
+    check(&none, Commit, "REFUSED 17", &none);
+    check(&after, Commit, "REFUSED 17", &after);
+}
+
+// The other calls keep the held task, accepted or refused. Its number is not in the table.
+#[test]
+fn calls_on_a_machine_that_holds_a_task() {
+    let held = |line: Line| holding(machine(1, 1, &[line]), [40, 3, 30]);
+    let (due, open) = ([20, 5, 10, 0, 0, 0, 0, 4], [20, 5, 10, 1, 9, 4, 19, 0]);
+    let before = held(due);
+    let released = held([20, 5, 10, 1, 10, 5, 20, 4]);
+    check(&before, Release(1, 5), "DONE", &released);
+    check(&before, Finish(1), "REFUSED 11", &before);
+    check(&before, Release(1, 6), "REFUSED 15", &before);
+    check(&before, Release(2, 3), "REFUSED 8", &before);
+    check(&before, Finish(2), "REFUSED 8", &before);
+    let before = held(open);
+    check(
+        &before,
+        Finish(1),
+        "DONE",
+        &held([20, 5, 10, 0, 0, 0, 19, 0]),
+    );
+    check(
+        &before,
+        Slot(1),
+        "1 0 0 1 1",
+        &held([20, 5, 10, 1, 8, 3, 18, 1]),
+    );
+    check(&before, Release(1, 5), "REFUSED 9", &before);
+    check(&before, Slot(0), "REFUSED 14", &before);
+    // Late: such a job no call leaves.
+    let late = held([20, 5, 10, 1, 1, 2, 19, 0]);
+    check(
+        &late,
+        Slot(1),
+        "1 0 1 1 1",
+        &held([20, 5, 10, 0, 0, 0, 18, 1]),
+    );
+}
+
+// Two tasks 5 5 5 on 1 core are not admitted: number 13. On 2 cores they are.
+#[test]
+fn a_held_task_that_is_not_admitted() {
+    let full = [5, 5, 5, 0, 0, 0, 0, 0];
+    check_unsound(&holding(machine(1, 1, &[full]), [5, 5, 5]));
+    let open = [5, 5, 5, 1, 5, 5, 5, 1];
+    check_unsound(&holding(machine(1, 1, &[open]), [5, 5, 5]));
+    check_unsound(&holding(
+        machine(2, 1, &[full, full]),
+        [1_000_000, 1, 1_000_000],
+    ));
+    let sound = holding(machine(1, 2, &[full]), [5, 5, 5]);
+    check(&sound, Commit, "DONE", &machine(2, 2, &[full, full]));
+}
+
+// Number 5 for the held task, one beyond each limit and far beyond.
+#[test]
+fn a_held_task_outside_its_limits() {
+    let before = machine(1, 2, &[[9, 2, 5, 1, 5, 2, 9, 0]]);
+    for task in [
+        [0, 0, 0],
+        [9, 0, 5],
+        [9, 6, 5],
+        [4, 2, 5],
+        [1_000_001, 2, 5],
+        [9, 2, 0],
+        [0, 2, 5],
+        [256, 257, 256],
+        [u32::MAX, 2, 5],
+        [u32::MAX, u32::MAX, u32::MAX],
+    ] {
+        check_unsound(&holding(before.clone(), task));
+    }
+    let added = [
+        [9, 2, 5, 1, 5, 2, 9, 0],
+        [1_000_000, 1, 1_000_000, 0, 0, 0, 0, 0],
+    ];
+    let sound = holding(before, [1_000_000, 1, 1_000_000]);
+    check(&sound, Commit, "DONE", &machine(2, 2, &added));
+}
+
+// Number 12: a table of 32 tasks has no place for the held one, one of 31 has.
+#[test]
+fn a_held_task_beside_32_tasks() {
+    let line = [90, 1, 90, 0, 0, 0, 0, 0];
+    check_unsound(&holding(machine(32, 16, &[line; 32]), [90, 1, 90]));
+    let last = [9, 9, 9, 1, 9, 9, 9, 9];
+    let mut lines = [line; 32];
+    lines[31] = last;
+    let sound = holding(machine(31, 16, &lines), [90, 1, 90]);
+    check(&sound, Commit, "DONE", &machine(32, 16, &[line; 32]));
+    check(
+        &machine(31, 16, &lines),
+        Commit,
+        "REFUSED 17",
+        &machine(31, 16, &lines),
+    );
+}
+
+// Another fault comes before 17 and before what is held.
+#[test]
+fn an_unsound_machine_that_holds_a_task_or_none() {
+    let line = [6, 3, 5, 1, 4, 2, 3, 0];
+    check_unsound(&machine(1, 1, &[line]));
+    check_unsound(&holding(machine(1, 1, &[line]), [90, 1, 90]));
+    for (count, cores) in [(0, 1), (33, 1), (1, 0), (1, 17)] {
+        let sound = [[90, 1, 90, 0, 0, 0, 0, 0]; 32];
+        check_unsound(&holding(machine(count, cores, &sound), [90, 1, 90]));
+    }
+}
+
+// Tasks 4 1 1 and 4 1 4 on 1 core and 5 1 5: the window test refuses the three, the slack
+// test does not, and held it is sound. 9 9 9 is refused by both.
+#[test]
+fn a_held_task_goes_by_the_slack_test() {
+    let lines = [[4, 1, 1, 0, 0, 0, 0, 0], [4, 1, 4, 0, 0, 0, 0, 0]];
+    let before = machine(2, 1, &lines);
+    let after = [lines[0], lines[1], [5, 1, 5, 0, 0, 0, 0, 0]];
+    let held = holding(before.clone(), [5, 1, 5]);
+    check(&held, Commit, "DONE", &machine(3, 1, &after));
+    check(&held, Offer(Task::new(5, 1, 5)), "DONE", &held);
+    check_unsound(&holding(before, [9, 9, 9]));
 }
 
 // Equal left, 4: task 2 owes more and runs, with the larger gap or the smaller.
@@ -198,9 +328,16 @@ fn a_late_job_of_an_admitted_table() {
 fn the_lines_of_a_machine() {
     let lines = [[1, 2, 3, 1, 4, 5, 6, 7], [8, 9, 10, 0, 11, 12, 13, 14]];
     let machine = machine(2, 16, &lines);
-    let call = Join(Task::new(15, 16, 17));
     let expected = "MACHINE 2 16\n1 2 3 1 4 5 6 7\n8 9 10 0 11 12 13 14\n".to_string()
-        + &"0 0 0 0 0 0 0 0\n".repeat(30)
-        + "JOIN 15 16 17\n";
-    assert_eq!(Probe { machine, call }.text(), expected);
+        + &"0 0 0 0 0 0 0 0\n".repeat(30);
+    let none = Probe {
+        machine: machine.clone(),
+        call: Offer(Task::new(15, 16, 17)),
+    };
+    assert_eq!(none.text(), format!("{expected}NONE\nOFFER 15 16 17\n"));
+    let held = Probe {
+        machine: holding(machine, [18, 19, 20]),
+        call: Commit,
+    };
+    assert_eq!(held.text(), format!("{expected}HELD 18 19 20\nCOMMIT\n"));
 }

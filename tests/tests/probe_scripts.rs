@@ -16,7 +16,7 @@ const CALLS: usize = 30;
 
 // Every first word of an answer to a call, with the number of a refusal. The slots in
 // which the cores do not rise with the task number stand apart.
-const ANSWERS: [&str; 11] = [
+const ANSWERS: [&str; 12] = [
     "DONE",
     "RAN",
     "RAN, CORES NOT RISING",
@@ -25,6 +25,7 @@ const ANSWERS: [&str; 11] = [
     "REFUSED 13",
     "REFUSED 14",
     "REFUSED 15",
+    "REFUSED 17",
     "REFUSED 5",
     "REFUSED 8",
     "REFUSED 9",

@@ -6,7 +6,7 @@ use edzl_tests::script::{Call, Script};
 use edzl_tests::tasks::Task;
 use edzl_tests::texts::{ORDERS, write};
 
-use Call::{Finish, Join, Release, Slot};
+use Call::{Commit, Finish, Offer, Release, Slot};
 
 // A slot on m cores, and those on one core fewer than m and one more than 16.
 const SLOT: Call = Slot(2);
@@ -184,14 +184,21 @@ fn a_finish_before_all_of_the_need() {
     assert_eq!(check(&of_one_task(&calls), &refused), expected);
 }
 
-// D and C are the joined task's, e is the release's.
+// D and C are the added task's, e is the release's.
 #[test]
-fn the_need_of_a_joined_task() {
-    let calls = [Join(Task::new(7, 2, 3)), Release(3, 1), SLOT, SLOT, SLOT];
-    let printed = "DONE\nDONE\n0 0 0 0\n0 0 0 0\n4 4 0 1 1\n";
-    assert_eq!(check(&script(&calls), printed), kept_by_fewer_runs());
+fn the_need_of_an_added_task() {
+    let offer = Offer(Task::new(7, 2, 3));
+    let calls = [offer, Commit, Release(3, 1), SLOT, SLOT, SLOT];
+    let printed = "DONE\nDONE\nDONE\n0 0 0 0\n0 0 0 0\n4 4 0 1 1\n";
+    let expected = Kept {
+        by_running: 1,
+        by_fewer_runs_than_c: 1,
+        of_added_tasks: 1,
+        ..Kept::default()
+    };
+    assert_eq!(check(&script(&calls), printed), Ok(expected));
     let open = printed.replace("4 4 0 1 1", "4 0 0 1 1");
-    let expected = broken(5, "a job of task 3 is not closed");
+    let expected = broken(6, "a job of task 3 is not closed");
     assert_eq!(check(&script(&calls), &open), expected);
 }
 
@@ -271,24 +278,103 @@ fn only_calls_after_the_release_count() {
     assert_eq!(check(&script(&calls), printed), expected);
 }
 
-// A joined task's numbers come from its line; a refused join gives no task.
+// One job of a task that a commit added, closed by running.
+fn kept_of_an_added_task() -> Result<Kept, String> {
+    Ok(Kept {
+        by_running: 1,
+        of_added_tasks: 1,
+        ..Kept::default()
+    })
+}
+
+// An added task's numbers come from the line of its offer; a refused offer gives none.
 #[test]
-fn joined_tasks() {
+fn added_tasks() {
     let calls = [
-        Join(Task::new(9, 9, 9)),
-        Join(Task::new(7, 1, 2)),
+        Offer(Task::new(7, 1, 2)),
+        Offer(Task::new(9, 9, 9)),
+        Commit,
         Release(3, 1),
         SLOT,
         SLOT,
     ];
-    let printed = "REFUSED 13\nDONE\nDONE\n0 0 0 0\n4 4 0 1 1\n";
-    assert_eq!(check(&script(&calls), printed), kept(1, 0, 0));
+    let printed = "DONE\nREFUSED 13\nDONE\nDONE\n0 0 0 0\n4 4 0 1 1\n";
+    assert_eq!(check(&script(&calls), printed), kept_of_an_added_task());
     let idle = printed.replace("4 4 0 1 1", "0 0 0 0");
-    let expected = broken(5, "a job of task 3 is not closed");
+    let expected = broken(6, "a job of task 3 is not closed");
     assert_eq!(check(&script(&calls), &idle), expected);
-    let without = printed.replacen("DONE", "REFUSED 13", 1);
-    let expected = broken(3, "a release of no task, 3");
-    assert_eq!(check(&script(&calls), &without), expected);
+    let refused = "DONE\nREFUSED 13\nREFUSED 17\nDONE\n0 0 0 0\n4 4 0 1 1\n";
+    let expected = broken(3, "a refused commit of 7 1 2");
+    assert_eq!(check(&script(&calls), refused), expected);
+    let without = "REFUSED 13\nREFUSED 13\nREFUSED 17\nDONE\n0 0 0 0\n4 4 0 1 1\n";
+    let expected = broken(4, "a release of no task, 3");
+    assert_eq!(check(&script(&calls), without), expected);
+}
+
+// Of two accepted offers the last: D is 2 and not 3, so that the job closes too late.
+#[test]
+fn a_commit_adds_the_task_of_the_last_offer() {
+    let (first, last) = (Task::new(7, 1, 3), Task::new(7, 1, 2));
+    let printed = "DONE\nDONE\nDONE\nDONE\n0 0 0 0\n0 0 0 0\n4 4 0 1 1\n";
+    let calls = |one, other| {
+        let offers = [Offer(one), Offer(other), Commit, Release(3, 1)];
+        [&offers[..], &[SLOT; 3]].concat()
+    };
+    let in_time = check(&script(&calls(last, first)), printed);
+    assert_eq!(in_time, kept_of_an_added_task());
+    let expected = broken(6, "a job of task 3 is not closed");
+    assert_eq!(check(&script(&calls(first, last)), printed), expected);
+    // A refused offer after it displaces nothing.
+    let refused = printed.replacen("DONE\nDONE", "DONE\nREFUSED 13", 1);
+    assert_eq!(check(&script(&calls(last, first)), &refused), expected);
+}
+
+// A commit has an offer since the commit before, or is refused.
+#[test]
+fn commits_of_no_offer() {
+    let offer = Offer(Task::new(7, 1, 2));
+    let expected = broken(1, "a commit of no offer");
+    assert_eq!(check(&script(&[Commit]), "DONE\n"), expected);
+    assert_eq!(check(&script(&[Commit]), "REFUSED 17\n"), kept(0, 0, 0));
+    let calls = [offer, Commit, Commit];
+    let expected = broken(3, "a commit of no offer");
+    assert_eq!(check(&script(&calls), "DONE\nDONE\nDONE\n"), expected);
+    let printed = "DONE\nDONE\nREFUSED 17\n";
+    assert_eq!(check(&script(&calls), printed), kept(0, 0, 0));
+    let printed = "REFUSED 13\nDONE\nREFUSED 17\n";
+    let expected = broken(2, "a commit of no offer");
+    assert_eq!(check(&script(&calls), printed), expected);
+}
+
+// A held task is not in the table yet, and calls in between keep it.
+#[test]
+fn calls_between_an_offer_and_its_commit() {
+    let calls = [
+        Release(1, 2),
+        Offer(Task::new(7, 1, 2)),
+        SLOT,
+        Release(3, 1),
+        BELOW,
+        Finish(3),
+        Commit,
+        SLOT,
+        Release(3, 1),
+        SLOT,
+    ];
+    let printed = "DONE\nDONE\n1 0 0 1 1\nREFUSED 8\nREFUSED 14\nREFUSED 8\nDONE\n\
+        1 1 0 1 1\nDONE\n4 4 0 1 1\n";
+    let expected = Kept {
+        by_running: 2,
+        past_refused_slots: 1,
+        of_added_tasks: 1,
+        past_offers: 1,
+        past_commits: 1,
+        ..Kept::default()
+    };
+    assert_eq!(check(&script(&calls), printed), Ok(expected));
+    let accepted = printed.replacen("REFUSED 8", "DONE", 1);
+    let expected = broken(4, "a release of no task, 3");
+    assert_eq!(check(&script(&calls), &accepted), expected);
 }
 
 // What a check would read that took refused slots for slots in which nobody ran.

@@ -15,7 +15,7 @@ use edzl_tests::script::{Answer, Call, Script, lines};
 use edzl_tests::tasks::MOST_TASKS;
 use edzl_tests::ties::Ties;
 use edzl_tests::{
-    assignment, cores, join_events, need_events, parts, program, promise, scripts, settings, ties,
+    assignment, cores, need_events, offer_events, parts, program, promise, scripts, settings, ties,
     window, wrong,
 };
 
@@ -24,15 +24,17 @@ const SCRIPTS: u64 = 20_000;
 // Every kind of answer that can happen, and no other may. Among the others are
 // number 0, since calls from a start leave no unsound machine, and number 10, which
 // stays empty: the gap of an open job is above 0, so that 9 refuses its release.
-const KINDS: [&str; 21] = [
+const KINDS: [&str; 23] = [
     "CALLS BAD LINE",
+    "COMMIT DONE",
+    "COMMIT REFUSED 17",
     "FINISH DONE",
     "FINISH REFUSED 11",
     "FINISH REFUSED 8",
-    "JOIN DONE",
-    "JOIN REFUSED 12",
-    "JOIN REFUSED 13",
-    "JOIN REFUSED 5",
+    "OFFER DONE",
+    "OFFER REFUSED 12",
+    "OFFER REFUSED 13",
+    "OFFER REFUSED 5",
     "RELEASE DONE",
     "RELEASE REFUSED 15",
     "RELEASE REFUSED 8",
@@ -48,10 +50,10 @@ const KINDS: [&str; 21] = [
     "TABLE REFUSED 7",
 ];
 
-// What must happen among them with the events of a slot's cores, of needs and of joins,
+// What must happen among them with the events of a slot's cores, of needs and of offers,
 // and nothing else may: no late job on an admitted table, no tie there among more urgent
-// tasks than cores, and no accepted join on a refused one.
-const EVENTS: [&str; 37] = [
+// tasks than cores, and no accepted offer or commit on a refused one.
+const EVENTS: [&str; 41] = [
     "a core above k, given up",
     "a core kept from the slot before",
     "a finish before the job ran",
@@ -59,7 +61,10 @@ const EVENTS: [&str; 37] = [
     "a job closed by a finish in time, table admitted",
     "a job closed by fewer runs than C in time, table admitted",
     "a job closed by running in time, table admitted",
+    "a job closed in time past a commit, table admitted",
     "a job closed in time past a refused slot, table admitted",
+    "a job closed in time past an offer, table admitted",
+    "a job closed in time, of an added task, table admitted",
     "a job closed in time, too late if refused slots counted, table admitted",
     "a job open at the last call, table admitted",
     "a job closed by running in time, table admitted by the slack test alone",
@@ -88,7 +93,8 @@ const EVENTS: [&str; 37] = [
     "a table grown to 32 tasks",
     "a table not admitted",
     "a task back after a pause, on another core",
-    "an accepted join, table admitted",
+    "an accepted commit, table admitted",
+    "an accepted offer, table admitted",
 ];
 
 // What shows that the budget breaks ties, on refused and on admitted tables.
@@ -114,9 +120,9 @@ const TIES: [[&str; 2]; 4] = [
 // Scripts for which each of them that can happen must be met once on average.
 const SCRIPTS_FOR_A_TIE: u64 = 10;
 
-// The same for each event of needs, and for each of joins.
+// The same for each event of needs, and for each of offers.
 const SCRIPTS_FOR_A_NEED: u64 = 20;
-const SCRIPTS_FOR_A_JOIN: u64 = 20;
+const SCRIPTS_FOR_AN_OFFER: u64 = 20;
 
 // How often each kind and each event was met.
 #[derive(Default)]
@@ -161,14 +167,14 @@ impl Tally {
         self.cores(script, answers);
         self.changes_of_k(script, answers);
         self.finishes(script, answers);
-        self.joins(script, answers, admitted);
+        self.offers(script, answers, admitted);
         self.ties(script, admitted);
         let needs = need_events::met(script).into_iter();
-        let joins = join_events::met(script, answers).into_iter();
+        let offers = offer_events::met(script, answers).into_iter();
         for name in assignment::met(script)
             .into_iter()
             .chain(needs)
-            .chain(joins)
+            .chain(offers)
         {
             self.event(name, 1);
         }
@@ -247,7 +253,7 @@ impl Tally {
         });
         let numbers: Vec<u32> = accepted.collect();
         let changes = numbers.windows(2).filter(|pair| pair[0] != pair[1]);
-        let times = u64::try_from(changes.count()).expect("a count of 64 bits");
+        let times = counted(changes.count());
         self.event("a slot of another k than the slot before", times);
     }
 
@@ -268,6 +274,9 @@ impl Tally {
             "a job closed in time past a refused slot, table admitted",
             "a job closed in time, too late if refused slots counted, table admitted",
             "a job closed by fewer runs than C in time, table admitted",
+            "a job closed in time, of an added task, table admitted",
+            "a job closed in time past an offer, table admitted",
+            "a job closed in time past a commit, table admitted",
         ];
         self.event(names[0], kept.by_running);
         self.event(names[1], kept.by_a_finish);
@@ -275,6 +284,9 @@ impl Tally {
         self.event(names[3], kept.past_refused_slots);
         self.event(names[4], kept.too_late_if_counted);
         self.event(names[5], kept.by_fewer_runs_than_c);
+        self.event(names[6], kept.of_added_tasks);
+        self.event(names[7], kept.past_offers);
+        self.event(names[8], kept.past_commits);
     }
 
     // The runners of a script, by what became of their cores.
@@ -302,19 +314,24 @@ impl Tally {
         }
     }
 
-    // Accepted joins, and whether they filled the table.
-    fn joins(&mut self, script: &Script, answers: &[Answer], admitted: bool) {
-        let calls = script.calls.iter().zip(answers);
-        let joins = calls.filter(|pair| matches!(pair, (Call::Join(_), Answer::Done)));
-        let joins = joins.count();
+    // Accepted offers and commits, and whether these filled the table.
+    fn offers(&mut self, script: &Script, answers: &[Answer], admitted: bool) {
+        let calls = || script.calls.iter().zip(answers);
+        let offers = calls().filter(|pair| matches!(pair, (Call::Offer(_), Answer::Done)));
         let names = [
-            "an accepted join, table refused",
-            "an accepted join, table admitted",
+            "an accepted offer, table refused",
+            "an accepted offer, table admitted",
         ];
-        let times = u64::try_from(joins).expect("a count of 64 bits");
-        self.event(names[usize::from(admitted)], times);
+        self.event(names[usize::from(admitted)], counted(offers.count()));
+        let commits = calls().filter(|pair| *pair == (&Call::Commit, &Answer::Done));
+        let commits = commits.count();
+        let names = [
+            "an accepted commit, table refused",
+            "an accepted commit, table admitted",
+        ];
+        self.event(names[usize::from(admitted)], counted(commits));
         let start = script.start().expect("a started machine").table.len();
-        let full = joins > 0 && start + joins == MOST_TASKS;
+        let full = commits > 0 && start + commits == MOST_TASKS;
         self.event("a table grown to 32 tasks", u64::from(full));
     }
 
@@ -358,12 +375,16 @@ impl Tally {
         );
         let met: BTreeSet<&str> = self.events.keys().copied().collect();
         let of_slots = assignment::EVENTS.iter().map(|(name, _)| *name);
-        let expected = EVENTS.into_iter().chain(of_slots).chain(join_events::NAMES);
+        let expected = EVENTS
+            .into_iter()
+            .chain(of_slots)
+            .chain(offer_events::NAMES);
         let expected: BTreeSet<&str> = expected.chain(need_events::names()).collect();
         assert_eq!(met, expected, "the events met, and the expected ones");
         self.require_often(TIES.iter().flatten().copied(), scripts / SCRIPTS_FOR_A_TIE);
         self.require_often(need_events::names(), scripts / SCRIPTS_FOR_A_NEED);
-        self.require_often(join_events::NAMES.into_iter(), scripts / SCRIPTS_FOR_A_JOIN);
+        let offers = offer_events::NAMES.into_iter();
+        self.require_often(offers, scripts / SCRIPTS_FOR_AN_OFFER);
     }
 
     // Those of these events that were met at all.
@@ -372,6 +393,10 @@ impl Tally {
             assert!(*times >= least, "{times} times, not {least}: {name}");
         }
     }
+}
+
+fn counted(times: usize) -> u64 {
+    u64::try_from(times).expect("a count of 64 bits")
 }
 
 fn window_admits(script: &Script) -> bool {
@@ -389,7 +414,8 @@ fn kind(call: Call, answer: Answer) -> String {
         Call::Release(..) => "RELEASE",
         Call::Finish(_) => "FINISH",
         Call::Slot(_) => "SLOT",
-        Call::Join(_) => "JOIN",
+        Call::Offer(_) => "OFFER",
+        Call::Commit => "COMMIT",
         Call::Bad(_) => "CALLS",
     };
     match answer {

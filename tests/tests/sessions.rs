@@ -43,15 +43,16 @@ fn case_k() {
 #[test]
 fn case_k_as_bytes() {
     let text = b"CORES 1\nPERIOD BUDGET DEADLINE\n5 5 5\n5 5 5\nCALLS\n\
-        RELEASE 1 5\nRELEASE 2 5\nSLOT 1\nFINISH 1\nSLOT 1\nJOIN 9 1 9\nSLOT 1\n";
+        RELEASE 1 5\nRELEASE 2 5\nSLOT 1\nFINISH 1\nSLOT 1\nOFFER 9 1 9\nCOMMIT\nSLOT 1\n";
     let table = [Task::new(5, 5, 5), Task::new(5, 5, 5)];
     let mut script = released_at_once(1, &table, 3);
     script.calls.insert(3, Call::Finish(1));
-    script.calls.insert(5, Call::Join(Task::new(9, 1, 9)));
+    script.calls.insert(5, Call::Offer(Task::new(9, 1, 9)));
+    script.calls.insert(6, Call::Commit);
     assert_eq!(script.text(), text);
     check(
         &script,
-        "DONE\nDONE\n1 0 0 1 1\nDONE\n2 0 0 1 1\nREFUSED 13\n2 0 0 1 1\n",
+        "DONE\nDONE\n1 0 0 1 1\nDONE\n2 0 0 1 1\nREFUSED 13\nREFUSED 17\n2 0 0 1 1\n",
     );
 }
 
@@ -225,11 +226,11 @@ fn case_k_on_more_cores() {
     check(&released_then(1, &table, &[16, 1, 1, 1, 1]), expected);
 }
 
-// The machine keeps m: joins and later slots go by it, not by a slot's k.
+// The machine keeps m: offers and later slots go by it, not by a slot's k.
 #[test]
 fn a_slot_leaves_m() {
     let text = b"CORES 1\nPERIOD BUDGET DEADLINE\n5 5 5\nCALLS\n\
-        SLOT 16\nJOIN 5 5 5\nSLOT 2\nJOIN 5 5 5\nSLOT 1\nSLOT 0\nJOIN 5 5 5\nSLOT 1\n";
+        SLOT 16\nOFFER 5 5 5\nSLOT 2\nOFFER 5 5 5\nSLOT 1\nSLOT 0\nOFFER 5 5 5\nSLOT 1\n";
     let expected = b"0 0 0 0\nREFUSED 13\n0 0 0 0\nREFUSED 13\n0 0 0 0\nREFUSED 14\n\
         REFUSED 13\n0 0 0 0\n";
     assert_eq!(program::replay_output(text), expected);

@@ -7,7 +7,7 @@ use edzl_tests::sessions::{check, released_at_once, released_then, script};
 use edzl_tests::tasks::Task;
 use edzl_tests::ties::{Slots, Ties, count};
 
-use Call::{Finish, Join, Release, Slot};
+use Call::{Commit, Finish, Offer, Release, Slot};
 
 const LONGEST: u32 = 1_000_000;
 
@@ -157,19 +157,21 @@ fn the_longer_job_takes_the_core_beside_an_urgent_one() {
     check(&released_at_once(2, &table, 5), expected);
 }
 
-// A task that joined stands last and goes first where it owes more; a finish
+// A task that a commit adds stands last and goes first where it owes more; a finish
 // takes its job out of the order. The script as bytes.
 #[test]
-fn a_joined_task_that_owes_more() {
+fn an_added_task_that_owes_more() {
     let text = b"CORES 1\nPERIOD BUDGET DEADLINE\n20 2 10\nCALLS\n\
-        JOIN 20 3 10\nRELEASE 1 2\nRELEASE 2 3\nSLOT 1\nSLOT 1\nSLOT 1\nFINISH 2\nSLOT 1\n";
+        OFFER 20 3 10\nCOMMIT\nRELEASE 1 2\nRELEASE 2 3\n\
+        SLOT 1\nSLOT 1\nSLOT 1\nFINISH 2\nSLOT 1\n";
     let slots = [Slot(1); 3];
-    let mut calls = vec![Join(Task::new(20, 3, 10)), Release(1, 2), Release(2, 3)];
+    let mut calls = vec![Offer(Task::new(20, 3, 10)), Commit];
+    calls.extend([Release(1, 2), Release(2, 3)]);
     calls.extend(slots);
     calls.extend([Finish(2), Slot(1)]);
     let script = script(1, &[Task::new(20, 2, 10)], calls);
     assert_eq!(script.text(), text);
-    let expected = "DONE\nDONE\nDONE\n2 0 0 1 1\n1 0 0 1 1\n2 0 0 1 1\nDONE\n1 1 0 1 1\n";
+    let expected = "DONE\nDONE\nDONE\nDONE\n2 0 0 1 1\n1 0 0 1 1\n2 0 0 1 1\nDONE\n1 1 0 1 1\n";
     check(&script, expected);
 }
 

@@ -1,4 +1,4 @@
--- The examples all hold: `call-examples-hold`, `core-examples-hold` and `need-examples-hold`. A run on a table that is not admitted can be late, and the claim of
+-- The examples all hold: `call-examples-hold`, `core-examples-hold`, `need-examples-hold` and `offer-examples-hold`. A run on a table that is not admitted can be late, and the claim of
 -- demand 3 is false of it: `late-run-refuted`.
 use mathlib.Core.Path.{_≡_, refl}
 use mathlib.Core.Bool.{true}
@@ -19,6 +19,7 @@ use Rattle.conformance.specs.Runs.{answers, sessionCalls}
 use Rattle.conformance.specs.CallExamples.{many, pressed, pressedCalls, ignoredSlot, withoutTasks, madeByHand, allKinds, whole, overtaken, ignored, callExamples}
 use Rattle.conformance.specs.CoreExamples.{coreLines, sameLists, coresAre, three, everySlot, recording, recordAfter, elseNoCores, coreExamples}
 use Rattle.conformance.specs.NeedExamples.{soonAndLong, twice, heldBack, heldBackCalls, jobAfter, opensWith, needExamples}
+use Rattle.conformance.specs.OfferExamples.{taskNumbers, heldNumbers, reached, heldIs, withHeld, two, loaded, menu, amid, leftOver, offerExamples}
 use Rattle.conformance.proofs.Computing.{computingRuns}
 
 pub call-examples-hold : allTrue callExamples ≡ true
@@ -32,6 +33,10 @@ core-examples-hold = refl
 pub need-examples-hold : allTrue needExamples ≡ true
 unfolding computingRuns saysRan saysFinished upToSlot ranWhole acceptedFinish isFinishOf anyFinish closedBySlot soonAndLong twice jobAfter opensWith heldBack heldBackCalls wholeJob wholeRelease needExamples
 need-examples-hold = refl
+
+pub offer-examples-hold : allTrue offerExamples ≡ true
+unfolding computingRuns saysRan saysFinished upToSlot ranWhole acceptedFinish isFinishOf anyFinish closedBySlot many allKinds whole taskNumbers heldNumbers reached heldIs withHeld two loaded menu amid leftOver offerExamples
+offer-examples-hold = refl
 
 -- the log of case k, in whose last slot both tasks are late; the claim fails of task 2
 pub late-run-refuted : InTime (tableOf whole) (answers whole 1 (sessionCalls whole 1 5)) → ⊥

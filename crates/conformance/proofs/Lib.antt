@@ -1,5 +1,8 @@
 pub mod ReleaseAsBefore
+pub mod SamePick
 pub mod SlotAsBefore
+pub mod HeldApart
+pub mod CommitAsJoin
 pub mod Computing
 pub mod CasesHold
 pub mod ExamplesHold

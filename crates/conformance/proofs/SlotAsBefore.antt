@@ -1,12 +1,13 @@
 -- On every sound machine a slot without its cores is the slot of before on the machine without cores (`slot-as-before`), and no other call depends on the
--- recorded cores (`release-alike`, `finish-alike`, `join-alike`). So two sound machines that differ in their cores alone answer alike
+-- recorded cores (`release-alike`, `finish-alike`, `offer-alike`, `commit-alike`). So two sound machines that differ in their cores alone answer alike
 -- (`cores-play-no-part`), and over every list of calls from a start the answers without their cores are those of before (`list-as-before`).
-use Prim.Native.Nat.{ℕ, zero, suc, _-_}
+use Prim.Native.Nat.{ℕ, _-_}
 use mathlib.Core.Path.{_≡_, refl, sym, ap, _∙_}
-use mathlib.Core.Bool.{Bool, true, false, cond, not}
+use mathlib.Core.Bool.{Bool, true, cond, not}
 use mathlib.Core.List.{List, [], _∷_}
-use lib.Dec.{leb, ltb}
+use lib.Dec.{ltb}
 use lib.ListN.{set, replicate}
+use Rattle.laws.proofs.CaseSplits.{of-either}
 use Rattle.laws.proofs.Replaced.{set-replicate}
 use Rattle.tasks.specs.declared.task.Task.{Task}
 use Rattle.tasks.specs.declared.table.Table.{Table}
@@ -14,43 +15,31 @@ use Rattle.tasks.specs.declared.outcome.Outcome.{Outcome}
 use Rattle.tasks.specs.declared.outcome.Outcome.the-variants.{Done, Refused}
 use Rattle.tasks.specs.Limits.{maxTasks}
 use Rattle.tasks.specs.Refusals.{unsoundMachine}
-use Rattle.tasks.specs.Task.{inRange}
 use Rattle.job.specs.Job.{needInRange}
-use Rattle.machine.specs.Machine.{taskAt, jobAt, withJob, inTable}
-use Rattle.machine.specs.Pick.{openCount, waiting, precedes, candidates, pick, runnerCount, runners}
+use Rattle.machine.specs.Machine.{taskAt, jobAt, withJob, holding, inTable}
+use Rattle.machine.specs.Offer.{offerChecked}
 use Rattle.machine.specs.Slot.{passed, ranCount, noReport, slotReport, afterSlot}
 use Rattle.machine.specs.Cores.{withAssigned}
 use Rattle.machine.specs.Sound.{sound}
-use Rattle.machine.specs.Calls.{done, refuse, startAfter, start, release, finish, slotCoresInRange, slot, withJoined, joinAfter, join, step}
+use Rattle.machine.specs.Calls.{done, refuse, startAfter, start, release, finish, slotCoresInRange, slot, offerAfter, offer, withJoined, commitHeld, commit, step}
 use Rattle.machine.specs.Play.{play}
+use Rattle.machine.specs.declared.held.Held.{Held}
+use Rattle.machine.specs.declared.held.Held.the-variants.{None, Offered}
 use Rattle.machine.specs.declared.machine.Machine.{Machine}
 use Rattle.machine.specs.declared.call.Call.{Call}
-use Rattle.machine.specs.declared.call.Call.the-variants.{Release, Finish, Slot, Join}
+use Rattle.machine.specs.declared.call.Call.the-variants.{Release, Finish, Slot, Offer, Commit}
 use Rattle.machine.specs.declared.answer.Answer.{Answer}
-use Rattle.machine.proofs.SoundLaws.{make-sound, sound-checks, sound-job}
+use Rattle.machine.proofs.SoundLaws.{make-sound, sound-checks, sound-job, sound-held}
 use Rattle.machine.proofs.CoresKept.{fresh-cores}
 use Rattle.machine.proofs.SoundKept.{call-keeps, start-sound, start-outcome}
 use Rattle.conformance.specs.FormerSlot.{noCores, machineWithoutCores, reportWithoutCores, answerWithoutCores, logWithoutCores, formerSlot, formerStep, formerPlay}
-
--- two answers to a test, each without its cores
-past : (t : Bool) (a a' b b' : Answer) → answerWithoutCores a ≡ b → answerWithoutCores a' ≡ b' → answerWithoutCores (cond t a a') ≡ cond t b b'
-past true a a' b b' e e' = e
-past false a a' b b' e e' = e'
+use Rattle.conformance.proofs.SamePick.{other, same-runners}
 
 module _ (m : Machine) where
-  same-pick : (n : ℕ) → pick (machineWithoutCores m) n ≡ pick m n
-  unfolding pick candidates waiting precedes jobAt machineWithoutCores
-  same-pick zero = refl
-  same-pick (suc n) = rw (same-pick n)
-
-  same-runners : (k : ℕ) → runners (machineWithoutCores m) k ≡ runners m k
-  unfolding runners runnerCount openCount jobAt machineWithoutCores
-  same-runners k = same-pick (runnerCount m k)
-
   module _ (ok : sound m ≡ true) where
     pub sound-without : sound (machineWithoutCores m) ≡ true
     unfolding machineWithoutCores noCores taskAt jobAt
-    sound-without = make-sound (machineWithoutCores m) (sound-checks m ok) (sound-job m ok) (fresh-cores (m .table .count) maxTasks)
+    sound-without = make-sound (machineWithoutCores m) (sound-checks m ok) (sound-job m ok) (fresh-cores (m .table .count) maxTasks) (sound-held m ok)
 
     refused : (number : ℕ) → answerWithoutCores (refuse m number) ≡ refuse (machineWithoutCores m) number
     unfolding answerWithoutCores reportWithoutCores noCores refuse noReport
@@ -63,44 +52,52 @@ module _ (m : Machine) where
     past-0 a b e = rw (ok, sound-without) e
 
     pub slot-as-before : (k : ℕ) → answerWithoutCores (slot m k) ≡ formerSlot (machineWithoutCores m) k
-    unfolding slot formerSlot slotCoresInRange answerWithoutCores machineWithoutCores reportWithoutCores afterSlot withAssigned slotReport passed ranCount jobAt
-    slot-as-before k = past-0 _ _ (past (not (slotCoresInRange m k)) _ _ _ _ (refused _) (rw (same-runners k)))
+    unfolding slot formerSlot slotCoresInRange answerWithoutCores machineWithoutCores reportWithoutCores afterSlot withAssigned slotReport passed ranCount jobAt other
+    slot-as-before k = past-0 _ _ (of-either answerWithoutCores (not (slotCoresInRange m k)) (refused _) (rw (same-runners m noCores (m .held) k)))
 
     pub release-alike : (number need : ℕ) → answerWithoutCores (release m number need) ≡ release (machineWithoutCores m) number need
     unfolding release answerWithoutCores machineWithoutCores reportWithoutCores noCores inTable jobAt taskAt done withJob noReport
     release-alike number need =
         past-0 _ _
-        (past (not (inTable m number)) _ _ _ _ (refused _)
-        (past (not (needInRange (taskAt m (number - 1)) need)) _ _ _ _ (refused _)
-        (past (ltb 0 (jobAt m (number - 1) .gap)) _ _ _ _ (refused _) refl)))
+        (of-either answerWithoutCores (not (inTable m number)) (refused _)
+        (of-either answerWithoutCores (not (needInRange (taskAt m (number - 1)) need)) (refused _)
+        (of-either answerWithoutCores (ltb 0 (jobAt m (number - 1) .gap)) (refused _) refl)))
 
     pub finish-alike : (number : ℕ) → answerWithoutCores (finish m number) ≡ finish (machineWithoutCores m) number
     unfolding finish answerWithoutCores machineWithoutCores reportWithoutCores noCores inTable jobAt done withJob noReport
     finish-alike number =
-        past-0 _ _ (past (not (inTable m number)) _ _ _ _ (refused _) (past (not (jobAt m (number - 1) .«open»)) _ _ _ _ (refused _) refl))
+        past-0 _ _ (of-either answerWithoutCores (not (inTable m number)) (refused _) (of-either answerWithoutCores (not (jobAt m (number - 1) .«open»)) (refused _) refl))
 
-    -- a join records no core for its task, and none stands there
+    offered-alike : (t : Task) (checks : Outcome) → answerWithoutCores (offerAfter checks m t) ≡ offerAfter checks (machineWithoutCores m) t
+    unfolding offerAfter answerWithoutCores machineWithoutCores reportWithoutCores noCores done holding noReport
+    offered-alike t Done = refl
+    offered-alike t (Refused number place) = refl
+
+    pub offer-alike : (t : Task) → answerWithoutCores (offer m t) ≡ offer (machineWithoutCores m) t
+    unfolding offer machineWithoutCores
+    offer-alike t = past-0 _ _ (offered-alike t (offerChecked (m .table) (m .cores) t))
+
+    -- a commit records no core for its task, and none stands there
     joined-alike : (t : Task) → machineWithoutCores (withJoined m t) ≡ withJoined (machineWithoutCores m) t
     unfolding machineWithoutCores noCores withJoined
     joined-alike t = rw (set-replicate {A = ℕ} maxTasks (m .table .count) 0)
 
-    after-verdict : (t : Task) (verdict : Outcome) (admits : Bool) → answerWithoutCores (joinAfter verdict admits m t) ≡ joinAfter verdict admits (machineWithoutCores m) t
-    unfolding joinAfter answerWithoutCores reportWithoutCores noCores done noReport
-    after-verdict t Done admits = past admits _ _ _ _ (rw (joined-alike t)) (refused _)
-    after-verdict t (Refused number place) admits = refl
+    held-alike : (held : Held) → answerWithoutCores (commitHeld held m) ≡ commitHeld held (machineWithoutCores m)
+    unfolding commitHeld answerWithoutCores reportWithoutCores noCores done noReport
+    held-alike None = refused _
+    held-alike (Offered t) = rw (joined-alike t)
 
-    pub join-alike : (t : Task) → answerWithoutCores (join m t) ≡ join (machineWithoutCores m) t
-    unfolding join machineWithoutCores
-    join-alike t =
-        past-0 _ _
-        (past (not (inRange t)) _ _ _ _ (refused _) (past (leb maxTasks (m .table .count)) _ _ _ _ (refused _) (after-verdict t _ _)))
+    pub commit-alike : answerWithoutCores (commit m) ≡ commit (machineWithoutCores m)
+    unfolding commit machineWithoutCores
+    commit-alike = past-0 _ _ (held-alike (m .held))
 
     call-as-before : (call : Call) → answerWithoutCores (step m call) ≡ formerStep (machineWithoutCores m) call
     unfolding step formerStep
     call-as-before (Release number need) = release-alike number need
     call-as-before (Finish number) = finish-alike number
     call-as-before (Slot k) = slot-as-before k
-    call-as-before (Join t) = join-alike t
+    call-as-before (Offer t) = offer-alike t
+    call-as-before Commit = commit-alike
 
 pub cores-play-no-part :
     (m m' : Machine) → sound m ≡ true → sound m' ≡ true → machineWithoutCores m ≡ machineWithoutCores m'

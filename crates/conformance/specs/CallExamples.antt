@@ -1,4 +1,4 @@
--- Examples beside the cases of document 01, as entries of a list of computed tests: joins, a task that turns urgent, refused calls, slots with
+-- Examples beside the cases of document 01, as entries of a list of computed tests: tasks that are added, a task that turns urgent, refused calls, slots with
 -- other cores than the machine's (document 02, change 1), jobs of equal deadlines (change 2), and machines made by hand (change 3). `allTrue` of crate laws
 -- is the test; the theorem stands in proofs/ExamplesHold.antt.
 use Prim.Native.Nat.{ℕ}
@@ -12,12 +12,13 @@ use Rattle.tasks.specs.Limits.{maxTasks}
 use Rattle.tasks.specs.Table.{emptyTable}
 use Rattle.tasks.specs.Written.{task, tableOf}
 use Rattle.job.specs.Job.{freshJob}
+use Rattle.machine.specs.declared.held.Held.the-variants.{None}
 use Rattle.machine.specs.declared.machine.Machine.{Machine}
 use Rattle.machine.specs.Sound.{sound}
 use Rattle.machine.specs.Play.{play}
 use Rattle.machine.specs.InTime.{slotCount, closedBySlot}
 use Rattle.machine.specs.declared.call.Call.{Call}
-use Rattle.machine.specs.declared.call.Call.the-variants.{Release, Finish, Slot, Join}
+use Rattle.machine.specs.declared.call.Call.the-variants.{Release, Finish, Slot, Offer, Commit}
 use Rattle.conformance.specs.FormerRelease.{formerRelease}
 use Rattle.conformance.specs.Runs.{line, answers, allReleased, refusalBefore, refusals, runnerCounts, runIs, ignoredIs, emptyRefusals}
 use Rattle.conformance.specs.Cases.{verdictIs, sessionIs, holds, example}
@@ -40,7 +41,7 @@ ignoredSlot k = ignoredIs pressed 2 (Release 1 2 ∷ Slot 2 ∷ []) (Slot k) 14 
 
 -- a machine made by hand that is unsound: it has 2 cores and no task
 unfoldable pub withoutTasks : Machine
-withoutTasks = record { table = emptyTable; cores = 2; jobs = replicate maxTasks freshJob; assigned = replicate maxTasks 0 }
+withoutTasks = record { table = emptyTable; cores = 2; jobs = replicate maxTasks freshJob; assigned = replicate maxTasks 0; held = None }
 
 -- a machine made by hand: a task 6, 3, 5 on 1 core, with this record
 unfoldable pub madeByHand : (isOpen : Bool) → (left budget gap : ℕ) → Machine
@@ -50,12 +51,13 @@ madeByHand isOpen left budget gap =
       cores = 1;
       jobs = set (replicate maxTasks freshJob) 0 (record { «open» = isOpen; left = left; budget = budget; gap = gap });
       assigned = replicate maxTasks 0;
+      held = None;
     }
 
 -- calls of every kind, each also with a number, need, cores or a task that it refuses
 unfoldable pub allKinds : List Call
 allKinds =
-    Release 1 3 ∷ Release 2 3 ∷ Release 1 0 ∷ Finish 1 ∷ Finish 2 ∷ Slot 1 ∷ Slot 0 ∷ Join (task 9 1 9) ∷ Join (task 5 6 5) ∷ []
+    Release 1 3 ∷ Release 2 3 ∷ Release 1 0 ∷ Finish 1 ∷ Finish 2 ∷ Slot 1 ∷ Slot 0 ∷ Offer (task 9 1 9) ∷ Offer (task 5 6 5) ∷ Commit ∷ []
 
 -- a table that a third task like the two fills beyond its cores
 unfoldable pub whole : List Task
@@ -78,21 +80,21 @@ callExamples =
     holds (verdictIs many 16 12 true) ∷
     holds (verdictIs many 11 12 false) ∷
     -- a 33rd task is refused by 12
-    runIs many 16 (Join (task 40 1 40) ∷ []) (12 ∷ []) [] ∷
-    -- a join that is admitted, between two slots: its task is released and runs
+    runIs many 16 (Offer (task 40 1 40) ∷ []) (12 ∷ []) [] ∷
+    -- an offer and a commit between two slots: the task is released and runs
     runIs (task 4 1 4 ∷ task 6 2 5 ∷ []) 2
-    (Release 1 1 ∷ Release 2 2 ∷ Slot 2 ∷ Join (task 10 6 8) ∷ Release 3 6 ∷ replicate 6 (Slot 2))
+    (Release 1 1 ∷ Release 2 2 ∷ Slot 2 ∷ Offer (task 10 6 8) ∷ Commit ∷ Release 3 6 ∷ replicate 6 (Slot 2))
     []
     (line 3 1 0 ∷ line 6 2 0 ∷ line 4 0 0 ∷ line 4 0 0 ∷ line 4 0 0 ∷ line 4 0 0 ∷ line 4 4 0 ∷ []) ∷
-    -- a join that the slack test admits and the window test does not, before the releases: none is late
+    -- an offer that the slack test admits and the window test does not, committed before the releases: none is late
     holds (verdictIs (task 4 1 1 ∷ task 4 1 4 ∷ task 5 1 5 ∷ []) 1 2 false) ∷
-    runIs (task 4 1 1 ∷ task 4 1 4 ∷ []) 1 (Join (task 5 1 5) ∷ Release 1 1 ∷ Release 2 1 ∷ Release 3 1 ∷ replicate 5 (Slot 1)) []
+    runIs (task 4 1 1 ∷ task 4 1 4 ∷ []) 1 (Offer (task 5 1 5) ∷ Commit ∷ Release 1 1 ∷ Release 2 1 ∷ Release 3 1 ∷ replicate 5 (Slot 1)) []
     (line 1 1 0 ∷ line 2 2 0 ∷ line 4 4 0 ∷ line 0 0 0 ∷ line 0 0 0 ∷ []) ∷
-    -- a join that is not admitted changes no later answer
-    ignoredIs whole 2 (Release 1 5 ∷ Slot 2 ∷ []) (Join (task 5 5 5)) 13 (Release 2 5 ∷ replicate 5 (Slot 2))
+    -- an offer that is not admitted changes no later answer
+    ignoredIs whole 2 (Release 1 5 ∷ Slot 2 ∷ []) (Offer (task 5 5 5)) 13 (Release 2 5 ∷ replicate 5 (Slot 2))
     (line 1 0 0 ∷ line 3 0 0 ∷ line 3 0 0 ∷ line 3 0 0 ∷ line 3 1 0 ∷ line 2 2 0 ∷ []) ∷
-    -- and its task has no number
-    runIs whole 2 (Join (task 5 5 5) ∷ Release 3 5 ∷ []) (13 ∷ 8 ∷ []) [] ∷
+    -- and its task is not held and has no number
+    runIs whole 2 (Offer (task 5 5 5) ∷ Commit ∷ Release 3 5 ∷ []) (13 ∷ 17 ∷ 8 ∷ []) [] ∷
     -- slot 3 runs task 3, urgent by then, before task 2 with the earlier deadline; tasks 1 and 2 first would make task 3 late
     holds (verdictIs overtaken 2 1 true) ∷
     runIs overtaken 2 (Release 3 6 ∷ Slot 2 ∷ Release 1 2 ∷ Release 2 2 ∷ replicate 6 (Slot 2)) []
@@ -107,9 +109,10 @@ callExamples =
     ignored (Release 4 1) 8 ∷
     ignored (Finish 0) 8 ∷
     ignored (Finish 4) 8 ∷
-    -- a join out of range, and one that is not admitted
-    ignored (Join (task 5 6 5)) 5 ∷
-    ignored (Join (task 10 9 10)) 13 ∷
+    -- an offer out of range, one that is not admitted, and a commit with no held task
+    ignored (Offer (task 5 6 5)) 5 ∷
+    ignored (Offer (task 10 9 10)) 13 ∷
+    ignored Commit 17 ∷
     -- a finish before the job has run: the task stays idle, and its gap stays
     runIs example 2 (Release 1 1 ∷ Release 2 2 ∷ Finish 2 ∷ Release 2 2 ∷ replicate 2 (Slot 2)) (9 ∷ []) (line 1 1 0 ∷ line 0 0 0 ∷ []) ∷
     -- refused slots between two accepted ones: of 0 cores, of one fewer than the machine's, of 17 and of the largest number
@@ -163,7 +166,7 @@ callExamples =
     not (sound (madeByHand false 1 0 1)) ∷
     not (sound (madeByHand false 0 1 0)) ∷
     -- a gap below left is told by 0 before all else, and by every call
-    sameNumbers (refusals (play (madeByHand true 4 2 3) allKinds)) (replicate 9 0) ∷
+    sameNumbers (refusals (play (madeByHand true 4 2 3) allKinds)) (replicate 10 0) ∷
     -- a release of an open job is refused by 9, also in the last slot of its gap
     sameNumbers (refusals (play (madeByHand true 4 2 4) (Release 2 3 ∷ Release 1 3 ∷ []))) (8 ∷ 9 ∷ []) ∷
     sameNumbers (refusals (play (madeByHand true 1 1 1) (Release 1 3 ∷ []))) (9 ∷ []) ∷

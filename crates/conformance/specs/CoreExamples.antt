@@ -16,9 +16,10 @@ use Rattle.machine.specs.Calls.{start}
 use Rattle.machine.specs.Play.{Entry, play, machineAfter}
 use Rattle.machine.specs.InTime.{acceptedSlot}
 use Rattle.tasks.specs.Written.{task, tableOf}
+use Rattle.machine.specs.declared.held.Held.the-variants.{None}
 use Rattle.machine.specs.declared.machine.Machine.{Machine}
 use Rattle.machine.specs.declared.call.Call.{Call}
-use Rattle.machine.specs.declared.call.Call.the-variants.{Release, Finish, Slot, Join}
+use Rattle.machine.specs.declared.call.Call.the-variants.{Release, Finish, Slot, Offer, Commit}
 use Rattle.conformance.specs.Runs.{answers, allReleased, refusals}
 
 -- the cores that the accepted slots of a log answer, each for the first n tasks
@@ -48,11 +49,17 @@ everySlot = replicate 2 (task 1 1 1)
 -- a machine made by hand: two closed tasks on 4 cores, with these cores recorded
 unfoldable pub recording : (assigned : List ℕ) → Machine
 recording assigned =
-    record { table = tableOf (replicate 2 (task 6 3 5)); cores = 4; jobs = replicate maxTasks freshJob; assigned = take maxTasks (assigned ++ replicate maxTasks 0) }
+    record {
+      table = tableOf (replicate 2 (task 6 3 5));
+      cores = 4;
+      jobs = replicate maxTasks freshJob;
+      assigned = take maxTasks (assigned ++ replicate maxTasks 0);
+      held = None;
+    }
 
--- the recorded cores of the first three entries after a call on such a machine
-unfoldable pub recordAfter : (assigned : List ℕ) → Call → List ℕ
-recordAfter assigned call = take 3 (machineAfter (recording assigned) (call ∷ []) .assigned)
+-- the recorded cores of the first three entries after some calls on such a machine
+unfoldable pub recordAfter : (assigned : List ℕ) → List Call → List ℕ
+recordAfter assigned calls = take 3 (machineAfter (recording assigned) calls .assigned)
 
 -- only accepted slots name cores
 unfoldable pub elseNoCores : List Entry → Bool
@@ -80,8 +87,8 @@ coreExamples =
     ((1 ∷ 2 ∷ 0 ∷ []) ∷ (0 ∷ 2 ∷ 1 ∷ []) ∷ []) ∷
     -- a finish keeps the core of its own task
     eqb (coreAt (machineAfter (start (tableOf three) 1 .machine) (allReleased three ++ Slot 3 ∷ Finish 2 ∷ [])) 1) 2 ∷
-    -- a release, a finish, a refused slot and a join name no core
-    elseNoCores (answers three 4 (allReleased three ++ Slot 4 ∷ Finish 1 ∷ Slot 3 ∷ Join (task 9 1 9) ∷ [])) ∷
+    -- a release, a finish, a refused slot, an offer and a commit name no core
+    elseNoCores (answers three 4 (allReleased three ++ Slot 4 ∷ Finish 1 ∷ Slot 3 ∷ Offer (task 9 1 9) ∷ Commit ∷ [])) ∷
     -- records with 16, 17, a core twice, and 0 twice; entries past the count are no part of the machine
     sound (recording (16 ∷ 1 ∷ [])) ∷
     not (sound (recording (17 ∷ 1 ∷ []))) ∷
@@ -89,11 +96,12 @@ coreExamples =
     sound (recording (0 ∷ 0 ∷ [])) ∷
     sound (recording (3 ∷ 0 ∷ 3 ∷ 17 ∷ [])) ∷
     -- every call on a machine with a core twice is refused by 0, before its own refusals
-    sameNumbers (refusals (play (recording (3 ∷ 3 ∷ [])) (Release 9 0 ∷ Finish 9 ∷ Slot 0 ∷ Join (task 5 6 5) ∷ []))) (replicate 4 0) ∷
-    -- a joining task has no core, whatever stood in its entry
-    sameNumbers (recordAfter (1 ∷ 2 ∷ 5 ∷ []) (Join (task 9 1 9))) (1 ∷ 2 ∷ 0 ∷ []) ∷
+    sameNumbers (refusals (play (recording (3 ∷ 3 ∷ [])) (Release 9 0 ∷ Finish 9 ∷ Slot 0 ∷ Offer (task 5 6 5) ∷ Commit ∷ []))) (replicate 5 0) ∷
+    -- an offer keeps the record; a committed task has no core, whatever stood in its entry
+    sameNumbers (recordAfter (1 ∷ 2 ∷ 5 ∷ []) (Offer (task 9 1 9) ∷ [])) (1 ∷ 2 ∷ 5 ∷ []) ∷
+    sameNumbers (recordAfter (1 ∷ 2 ∷ 5 ∷ []) (Offer (task 9 1 9) ∷ Commit ∷ [])) (1 ∷ 2 ∷ 0 ∷ []) ∷
     -- a slot in which nobody runs clears the record of the table's tasks alone
-    sameNumbers (recordAfter (1 ∷ 2 ∷ 5 ∷ []) (Slot 4)) (0 ∷ 0 ∷ 5 ∷ []) ∷
+    sameNumbers (recordAfter (1 ∷ 2 ∷ 5 ∷ []) (Slot 4 ∷ [])) (0 ∷ 0 ∷ 5 ∷ []) ∷
     -- a refused start hands back a machine that records no core
     sameNumbers (start emptyTable 1 .machine .assigned) (replicate maxTasks 0) ∷
     []

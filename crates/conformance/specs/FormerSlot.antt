@@ -9,11 +9,11 @@ use Rattle.tasks.specs.Refusals.{unsoundMachine, slotCoresOutOfRange}
 use Rattle.machine.specs.Pick.{runners}
 use Rattle.machine.specs.Slot.{slotReport, afterSlot}
 use Rattle.machine.specs.Sound.{sound}
-use Rattle.machine.specs.Calls.{refuse, release, finish, slotCoresInRange, join}
+use Rattle.machine.specs.Calls.{refuse, release, finish, slotCoresInRange, offer, commit}
 use Rattle.machine.specs.Play.{Entry}
 use Rattle.machine.specs.declared.machine.Machine.{Machine}
 use Rattle.machine.specs.declared.call.Call.{Call}
-use Rattle.machine.specs.declared.call.Call.the-variants.{Release, Finish, Slot, Join}
+use Rattle.machine.specs.declared.call.Call.the-variants.{Release, Finish, Slot, Offer, Commit}
 use Rattle.machine.specs.declared.answer.Answer.{Answer}
 use Rattle.machine.specs.declared.answer.Report.{Report}
 
@@ -23,7 +23,7 @@ noCores = replicate maxTasks 0
 
 -- "dropping the cores" of a machine
 unfoldable pub machineWithoutCores : Machine → Machine
-machineWithoutCores m = record { table = m .table; cores = m .cores; jobs = m .jobs; assigned = noCores }
+machineWithoutCores m = record { table = m .table; cores = m .cores; jobs = m .jobs; assigned = noCores; held = m .held }
 
 -- of a report
 unfoldable pub reportWithoutCores : Report → Report
@@ -54,7 +54,8 @@ unfoldable pub formerStep : Machine → Call → Answer
 formerStep m (Release number need) = release m number need
 formerStep m (Finish number) = finish m number
 formerStep m (Slot k) = formerSlot m k
-formerStep m (Join t) = join m t
+formerStep m (Offer t) = offer m t
+formerStep m Commit = commit m
 
 -- the log of a list of calls with the slot of before
 unfoldable pub formerPlay : Machine → List Call → List Entry

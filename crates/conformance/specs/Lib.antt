@@ -1,10 +1,12 @@
 pub mod FormerSound
 pub mod FormerRelease
 pub mod FormerSlot
+pub mod FormerJoin
 pub mod Runs
 pub mod Cases
 pub mod CallExamples
 pub mod CoreExamples
 pub mod NeedExamples
+pub mod OfferExamples
 pub mod ManyTasks
 pub mod CheaperInTime

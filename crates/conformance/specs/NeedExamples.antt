@@ -14,7 +14,7 @@ use Rattle.machine.specs.Play.{machineAfter}
 use Rattle.machine.specs.InTime.{closedBySlot}
 use Rattle.tasks.specs.Written.{task, tableOf}
 use Rattle.machine.specs.declared.call.Call.{Call}
-use Rattle.machine.specs.declared.call.Call.the-variants.{Release, Finish, Slot, Join}
+use Rattle.machine.specs.declared.call.Call.the-variants.{Release, Finish, Slot, Offer, Commit}
 use Rattle.conformance.specs.FormerRelease.{wholeRelease}
 use Rattle.conformance.specs.Runs.{line, answers, runIs, ignoredIs, emptyRefusals}
 use Rattle.conformance.specs.Cases.{verdictIs, holds}
@@ -74,8 +74,8 @@ needExamples =
     runIs twice 1 (Release 1 1 ∷ Release 2 2 ∷ replicate 3 (Slot 1)) [] (line 2 0 0 ∷ line 1 1 0 ∷ line 2 2 0 ∷ []) ∷
     -- a finish before the need has run; after the gap the next job has a need of its own
     opensWith (jobAfter twice (Release 1 2 ∷ Slot 1 ∷ Finish 1 ∷ replicate 5 (Slot 1) ++ Release 1 3 ∷ []) 0) 5 3 6 ∷
-    -- a joined task's need goes by its own budget
-    runIs twice 2 (Join (task 9 1 9) ∷ Release 3 2 ∷ Release 3 1 ∷ Slot 2 ∷ []) (15 ∷ []) (line 4 4 0 ∷ []) ∷
+    -- a committed task's need goes by its own budget
+    runIs twice 2 (Offer (task 9 1 9) ∷ Commit ∷ Release 3 2 ∷ Release 3 1 ∷ Slot 2 ∷ []) (15 ∷ []) (line 4 4 0 ∷ []) ∷
     -- on an admitted table a job of need 3 waits for an urgent one and is closed by the last slot to its deadline, not before, and has not run its
     -- whole budget of 4
     holds (verdictIs heldBack 2 2 true) ∷

@@ -33,6 +33,12 @@ pub by-cond : {A : Type 0} (P : A → Type 0) (t : Bool) {x y : A} → (t ≡ tr
 by-cond P true f g = f refl
 by-cond P false f g = g refl
 
+-- what a function makes of either outcome of a test
+pub of-either :
+    {A B : Type 0} (f : A → B) (t : Bool) {x y : A} {fx fy : B} → f x ≡ fx → f y ≡ fy → f (cond t x y) ≡ cond t fx fy
+of-either f true p q = p
+of-either f false p q = q
+
 -- two constructors that were equal would make 0 equal to 1, which `cc` finds
 pub clash : {A : Type 0} → _≡_ {A = ℕ} 0 1 → A
 clash e = absurd (omega (arith, e))

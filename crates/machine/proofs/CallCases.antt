@@ -4,34 +4,34 @@ use Prim.Native.Nat.{ℕ, _-_, _≤_, _<_}
 use mathlib.Core.Path.{_≡_, refl}
 use mathlib.Core.Bool.{Bool, true, false, cond, not}
 use mathlib.Core.List.{List}
-use lib.Dec.{leb, ltb}
+use lib.Dec.{ltb}
 use native.Mathlib.Omega.{arith}
 use borrow.Author.Tests.{not-true, not-false, ltb-false}
 use Rattle.tasks.specs.declared.task.Task.{Task}
 use Rattle.tasks.specs.declared.outcome.Outcome.{Outcome}
 use Rattle.tasks.specs.declared.outcome.Outcome.the-variants.{Done, Refused}
-use Rattle.tasks.specs.Limits.{maxTasks, maxCores}
-use Rattle.tasks.specs.Refusals.{unsoundMachine, taskOutOfRange, noSuchTask, releasedTooSoon, jobNotOpen, tableFull, notAdmitted, slotCoresOutOfRange, needOutOfRange}
-use Rattle.tasks.specs.Task.{inRange}
-use Rattle.tasks.specs.Table.{withTask}
+use Rattle.tasks.specs.Limits.{maxCores}
+use Rattle.tasks.specs.Refusals.{unsoundMachine, noSuchTask, releasedTooSoon, jobNotOpen, slotCoresOutOfRange, needOutOfRange, noHeldTask}
 use Rattle.laws.proofs.CaseSplits.{not-both, by-cond}
 use Rattle.tasks.proofs.OutcomeLaws.{Numbered}
-use Rattle.judge.specs.SlackJudge.{admission}
-use Rattle.judge.proofs.Admitted.{admission-numbered}
 use Rattle.job.specs.Job.{closedJob, releasedJob}
 use Rattle.job.proofs.NeedLaws.{NeedRange, need-range}
-use Rattle.machine.specs.Machine.{taskAt, jobAt, withJob}
+use Rattle.machine.specs.Machine.{taskAt, jobAt, withJob, holding}
 use Rattle.machine.specs.Pick.{runners}
 use Rattle.machine.specs.Slot.{noReport, slotReport, afterSlot}
 use Rattle.machine.specs.Cores.{slotAssignment, withAssigned}
+use Rattle.machine.specs.Offer.{offerChecked}
 use Rattle.machine.specs.Sound.{sound}
-use Rattle.machine.specs.Calls.{done, refuse, withJoined, joinAfter, release, finish, slotCoresInRange, slot, join, step}
+use Rattle.machine.specs.Calls.{done, refuse, release, finish, slotCoresInRange, slot, offerAfter, offer, withJoined, commitHeld, commit, step}
+use Rattle.machine.specs.declared.held.Held.{Held}
+use Rattle.machine.specs.declared.held.Held.the-variants.{None, Offered}
 use Rattle.machine.specs.declared.machine.Machine.{Machine}
 use Rattle.machine.specs.declared.call.Call.{Call}
-use Rattle.machine.specs.declared.call.Call.the-variants.{Release, Finish, Slot, Join}
+use Rattle.machine.specs.declared.call.Call.the-variants.{Release, Finish, Slot, Offer, Commit}
 use Rattle.machine.specs.declared.answer.Answer.{Answer}
 use Rattle.machine.specs.declared.answer.Report.{Report}
-use Rattle.machine.proofs.SoundLaws.{sound-free}
+use Rattle.machine.proofs.OfferLaws.{OfferFits, offer-numbered}
+use Rattle.machine.proofs.SoundLaws.{sound-free, held-fits}
 use Rattle.machine.proofs.TaskNumbers.{KnownTask, known-task}
 use Rattle.machine.proofs.SlotStep.{LegalSlot}
 use Rattle.machine.proofs.RunnersLegal.{runners-legal, enough-cores, few-cores}
@@ -59,7 +59,7 @@ pub record Refusal (m : Machine) (number : ℕ) : Type 0 where
   pub some : sound m ≡ true → 0 < number
   pub small : number < 100
 
--- what an accepted release, finish, slot and join found
+-- what an accepted release, finish, slot, offer and commit found
 pub record ReleaseTaken (m : Machine) (number need : ℕ) : Type 0 where
   pub task : KnownTask m number
   pub needed : NeedRange (taskAt m (number - 1)) need
@@ -75,9 +75,14 @@ pub record SlotTaken (m : Machine) (k : ℕ) (ran : List Bool) (assigned : List 
   pub placed : Placed k ran assigned
   pub few-cores : k ≤ maxCores
 
-pub record JoinTaken (m : Machine) (t : Task) : Type 0 where
+pub record OfferTaken (m : Machine) (t : Task) : Type 0 where
   pub is-sound : sound m ≡ true
-  pub admits : admission (withTask (m .table) t) (m .cores) .admits ≡ true
+  pub passes : offerChecked (m .table) (m .cores) t ≡ Done
+
+pub record CommitTaken (m : Machine) (t : Task) : Type 0 where
+  pub is-sound : sound m ≡ true
+  pub held-is : m .held ≡ Offered t
+  pub fits : OfferFits (m .table) (m .cores) t
 
 -- what holds of a refused call's answer and of each accepted call's holds of every call's
 module _
@@ -87,7 +92,8 @@ module _
     (on-release : (number need : ℕ) → ReleaseTaken m number need → P (Release number need) (accepted (afterRelease m number need) noReport))
     (on-finish : (number : ℕ) → FinishTaken m number → P (Finish number) (accepted (afterFinish m number) noReport))
     (on-slot : (k : ℕ) (ran : List Bool) (assigned : List ℕ) → SlotTaken m k ran assigned → P (Slot k) (slotAnswer m ran assigned))
-    (on-join : (t : Task) → JoinTaken m t → P (Join t) (accepted (withJoined m t) noReport))
+    (on-offer : (t : Task) → OfferTaken m t → P (Offer t) (accepted (holding m (Offered t)) noReport))
+    (on-commit : (t : Task) → CommitTaken m t → P Commit (accepted (withJoined m t) noReport))
   where
     -- by a number that is not 0
     by-number : (number : ℕ) → (0 < number) × (number < 100) → Refusal m number
@@ -105,13 +111,17 @@ module _
         → P call (cond t (refusal m number 0) answer)
     past call t number h on = by-cond (P call) t (λ e. on-refusal call number 0 (by-number number h)) on
 
-    -- a join, after the verdict on the longer table
-    by-verdict :
-        (t : Task) (verdict : Outcome) (admits : Bool) → Numbered verdict → (admits ≡ true → JoinTaken m t) → P (Join t) (joinAfter verdict admits m t)
-    unfolding joinAfter refuse done
-    by-verdict t Done admits numbered taken =
-        by-cond (P (Join t)) admits (λ e. on-join t (taken e)) (λ e. on-refusal _ notAdmitted _ (by-number notAdmitted (omega arith)))
-    by-verdict t (Refused number place) admits numbered taken = on-refusal _ _ _ (by-number number (numbered .number-is number place refl))
+    -- an offer, after its checks
+    by-offer : (t : Task) (checks : Outcome) → Numbered checks → (checks ≡ Done → OfferTaken m t) → P (Offer t) (offerAfter checks m t)
+    unfolding offerAfter done
+    by-offer t Done numbered taken = on-offer t (taken refl)
+    by-offer t (Refused number place) numbered taken = on-refusal _ _ _ (by-number number (numbered .number-is number place refl))
+
+    -- a commit, by what the machine holds
+    by-held : sound m ≡ true → (held : Held) → m .held ≡ held → P Commit (commitHeld held m)
+    unfolding commitHeld refuse done
+    by-held ok None e = on-refusal _ _ _ (by-number noHeldTask (omega arith))
+    by-held ok (Offered t) e = on-commit t (record { is-sound = ok; held-is = e; fits = held-fits m ok t e })
 
     -- a task without a gap is closed, as the machine is sound
     release-taken :
@@ -130,7 +140,7 @@ module _
         }
 
     pub by-call : (call : Call) → P call (step m call)
-    unfolding step release finish slot join refuse done afterRelease afterFinish
+    unfolding step release finish slot offer commit refuse done afterRelease afterFinish
     by-call (Release number need) =
         past-0 _ λ ok.
         past _ _ noSuchTask (omega arith) λ known.
@@ -147,8 +157,7 @@ module _
         past-0 _ λ ok.
         past _ _ slotCoresOutOfRange (omega arith) λ in-range.
         on-slot k (runners m k) (slotAssignment m k) (slot-taken k ok (not-false _ in-range))
-    by-call (Join t) =
+    by-call (Offer t) =
         past-0 _ λ ok.
-        past _ (not (inRange t)) taskOutOfRange (omega arith) λ in-range.
-        past _ (leb maxTasks (m .table .count)) tableFull (omega arith) λ room.
-        by-verdict t _ _ (admission-numbered (withTask (m .table) t) (m .cores)) λ admits. record { is-sound = ok; admits = admits }
+        by-offer t _ (offer-numbered (m .table) (m .cores) t) λ passes. record { is-sound = ok; passes = passes }
+    by-call Commit = past-0 _ λ ok. by-held ok (m .held) refl

@@ -12,17 +12,22 @@ use borrow.Author.Tests.{eqb-false}
 use Rattle.laws.proofs.CaseSplits.{by-equal, not-both, clash}
 use Rattle.tasks.specs.declared.task.Task.{Task}
 use Rattle.tasks.specs.Table.{withTask}
-use Rattle.machine.specs.Machine.{jobAt, coreAt, withJob}
+use Rattle.machine.specs.Machine.{jobAt, coreAt, withJob, holding}
 use Rattle.machine.specs.Slot.{noReport}
 use Rattle.machine.specs.Calls.{withJoined, step}
-use Rattle.machine.specs.InTime.{isSlot, isFinishOf, joinedBy}
+use Rattle.machine.specs.InTime.{isSlot, isFinishOf, Point, committed, pointBy}
+use Rattle.machine.specs.declared.held.Held.the-variants.{Offered}
 use Rattle.machine.specs.declared.machine.Machine.{Machine}
 use Rattle.machine.specs.declared.call.Call.{Call}
-use Rattle.machine.specs.declared.call.Call.the-variants.{Release, Finish, Slot, Join}
+use Rattle.machine.specs.declared.call.Call.the-variants.{Release, Finish, Slot, Offer, Commit}
 use Rattle.machine.specs.declared.answer.Answer.{Answer}
 use Rattle.machine.proofs.State.{job-other}
-use Rattle.machine.proofs.CallCases.{Refusal, ReleaseTaken, FinishTaken, SlotTaken, refusal, accepted, slotAnswer, afterRelease, afterFinish, by-call}
+use Rattle.machine.proofs.CallCases.{Refusal, ReleaseTaken, FinishTaken, SlotTaken, CommitTaken, refusal, accepted, slotAnswer, afterRelease, afterFinish, by-call}
 use Rattle.machine.proofs.JobSteps.{old-job}
+
+-- the machine's table and what it holds, as a log tells them
+unfoldable pub pointOf : Machine → Point
+pointOf m = record { table = m .table; offered = m .held }
 
 -- an accepted release of this task with this need made the machine m'
 pub record Opened (m m' : Machine) (number need : ℕ) : Type 0 where
@@ -32,8 +37,8 @@ pub record Opened (m m' : Machine) (number need : ℕ) : Type 0 where
 -- what holds of every accepted call that is no slot and made the machine m'
 pub record Silent (m : Machine) (call : Call) (m' : Machine) : Type 0 where
   pub no-slot : isSlot call ≡ false
-  -- the table is what the claim of demand 3 reads from the call
-  pub table-is : m' .table ≡ joinedBy call (m .table)
+  -- the table and what is held are what the claim of demand 3 reads from the call
+  pub point-is : pointOf m' ≡ pointBy call (pointOf m)
   pub no-fewer : m .table .count ≤ m' .table .count
   -- the recorded cores stay
   pub record-long : length (m' .assigned) ≡ length (m .assigned)
@@ -44,11 +49,11 @@ pub record Silent (m : Machine) (call : Call) (m' : Machine) : Type 0 where
 
 module _ (m : Machine) where
   silent-release : (number need : ℕ) → ReleaseTaken m number need → Silent m (Release number need) (afterRelease m number need)
-  unfolding isSlot joinedBy coreAt afterRelease withJob
+  unfolding isSlot pointOf pointBy coreAt afterRelease withJob
   silent-release number need taken =
       record {
         no-slot = refl;
-        table-is = refl;
+        point-is = refl;
         no-fewer = le-refl _;
         record-long = refl;
         record-stays = λ i h. refl;
@@ -63,11 +68,11 @@ module _ (m : Machine) where
       }
 
   silent-finish : (number : ℕ) → FinishTaken m number → Silent m (Finish number) (afterFinish m number)
-  unfolding isSlot isFinishOf joinedBy coreAt afterFinish withJob
+  unfolding isSlot isFinishOf pointOf pointBy coreAt afterFinish withJob
   silent-finish number taken =
       record {
         no-slot = refl;
-        table-is = refl;
+        point-is = refl;
         no-fewer = le-refl _;
         record-long = refl;
         record-stays = λ i h. refl;
@@ -76,12 +81,25 @@ module _ (m : Machine) where
         opened = λ n e c. clash cc;
       }
 
-  silent-join : (t : Task) → Silent m (Join t) (withJoined m t)
-  unfolding isSlot joinedBy coreAt withJoined withTask
-  silent-join t =
+  silent-offer : (t : Task) → Silent m (Offer t) (holding m (Offered t))
+  unfolding isSlot pointOf pointBy coreAt jobAt holding
+  silent-offer t =
       record {
         no-slot = refl;
-        table-is = refl;
+        point-is = refl;
+        no-fewer = le-refl _;
+        record-long = refl;
+        record-stays = λ i h. refl;
+        job-stays = λ i h o other. refl;
+        opened = λ n e c. clash cc;
+      }
+
+  silent-commit : (t : Task) → CommitTaken m t → Silent m Commit (withJoined m t)
+  unfolding isSlot pointOf pointBy committed coreAt withJoined withTask
+  silent-commit t taken =
+      record {
+        no-slot = refl;
+        point-is = rw (taken .held-is);
         no-fewer = omega arith;
         record-long = length-set (m .assigned) (m .table .count) 0;
         record-stays = λ i h. getD-set-other (m .assigned) (m .table .count) i 0 0 (λ e. omega arith);
@@ -103,4 +121,5 @@ module _
         (λ number need taken. on-silent _ _ (silent-release m number need taken))
         (λ number taken. on-silent _ _ (silent-finish m number taken))
         on-slot
-        (λ t taken. on-silent _ _ (silent-join m t))
+        (λ t taken. on-silent _ _ (silent-offer m t))
+        (λ t taken. on-silent _ _ (silent-commit m t taken))

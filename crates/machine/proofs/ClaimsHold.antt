@@ -20,15 +20,15 @@ use Rattle.judge.specs.SlackExamples.{fourTasks}
 use Rattle.machine.specs.Slot.{noReport}
 use Rattle.machine.specs.Calls.{start}
 use Rattle.machine.specs.Play.{Entry, play}
-use Rattle.machine.specs.InTime.{isFinishOf, acceptedFinish, saysRan, saysFinished, slotCount, upToSlot, ranWhole, anyFinish, tableAfter, joinedBy, closedBySlot, InTime, Promise}
-use Rattle.machine.specs.Claims.{slotOf, idle, ranOn, ranLast, acceptedCall, refusedCall, closedIn, threeTasks, claims}
+use Rattle.machine.specs.InTime.{isFinishOf, acceptedFinish, saysRan, saysFinished, slotCount, upToSlot, ranWhole, anyFinish, committed, pointBy, pointAfter, tableAfter, closedBySlot, InTime, Promise}
+use Rattle.machine.specs.Claims.{slotOf, idle, ranOn, ranLast, acceptedCall, refusedCall, closedIn, threeTasks, fourth, claims}
 use Rattle.machine.specs.declared.call.Call.{Call}
-use Rattle.machine.specs.declared.call.Call.the-variants.{Release, Slot, Join}
+use Rattle.machine.specs.declared.call.Call.the-variants.{Release, Slot, Offer, Commit}
 use Rattle.machine.proofs.Computing.{computing}
 use Rattle.machine.proofs.InTimeHolds.{promise}
 
 pub claims-hold : allTrue claims ≡ true
-unfolding computing saysRan saysFinished slotCount upToSlot ranWhole acceptedFinish isFinishOf anyFinish closedBySlot tableAfter joinedBy slotOf idle ranOn ranLast acceptedCall refusedCall closedIn threeTasks claims allTrue
+unfolding computing saysRan saysFinished slotCount upToSlot ranWhole acceptedFinish isFinishOf anyFinish closedBySlot committed pointBy pointAfter tableAfter slotOf idle ranOn ranLast acceptedCall refusedCall closedIn threeTasks fourth claims allTrue
 claims-hold = refl
 
 -- a slot of a log made by hand in which task 2 is late
@@ -65,12 +65,12 @@ fourthRan finished =
 -- finishes with the third; the claim fails of that release
 pub unclosed-refuted :
     (InTime threeTasks
-    (acceptedCall (Release 1 1) ∷ acceptedCall (Join (task 9 3 3)) ∷ acceptedCall (Release 4 2) ∷ fourthRan false ∷ fourthRan false ∷ fourthRan true ∷ []))
+    (acceptedCall (Release 1 1) ∷ acceptedCall (Offer (task 9 3 3)) ∷ acceptedCall Commit ∷ acceptedCall (Release 4 2) ∷ fourthRan false ∷ fourthRan false ∷ fourthRan true ∷ []))
     → ⊥
-unfolding computing acceptedCall threeTasks fourthRan saysRan saysFinished slotCount upToSlot ranWhole acceptedFinish isFinishOf anyFinish closedBySlot tableAfter joinedBy
+unfolding computing acceptedCall threeTasks fourthRan saysRan saysFinished slotCount upToSlot ranWhole acceptedFinish isFinishOf anyFinish closedBySlot committed pointBy pointAfter tableAfter
 unclosed-refuted claim =
     not-both false
-    (claim .all-closed (acceptedCall (Release 1 1) ∷ acceptedCall (Join (task 9 3 3)) ∷ []) (fourthRan false ∷ fourthRan false ∷ fourthRan true ∷ [])
+    (claim .all-closed (acceptedCall (Release 1 1) ∷ acceptedCall (Offer (task 9 3 3)) ∷ acceptedCall Commit ∷ []) (fourthRan false ∷ fourthRan false ∷ fourthRan true ∷ [])
     (acceptedCall (Release 4 2)) 4 2 refl refl refl (omega arith))
     refl
 
@@ -105,7 +105,7 @@ exampleCalls : List Call
 exampleCalls = Release 1 1 ∷ Release 2 1 ∷ Release 3 1 ∷ Release 4 2 ∷ replicate 8 (Slot 2)
 
 pub not-empty : NotEmpty
-unfolding computing fourTasks exampleCalls saysRan saysFinished slotCount tableAfter joinedBy
+unfolding computing fourTasks exampleCalls saysRan saysFinished slotCount committed pointBy pointAfter tableAfter
 not-empty =
     let entries = play (start (tableOf fourTasks) 2 .machine) exampleCalls in
     record {

@@ -17,13 +17,13 @@ use Rattle.judge.specs.Judge.{judged}
 use Rattle.judge.proofs.Admitted.{window-admitted}
 use Rattle.machine.specs.Calls.{start, step}
 use Rattle.machine.specs.Play.{play}
-use Rattle.machine.specs.InTime.{slotCount, joinedBy, closedBySlot, InTime, Promise}
+use Rattle.machine.specs.InTime.{slotCount, pointBy, closedBySlot, InTime, Promise}
 use Rattle.machine.specs.declared.machine.Machine.{Machine}
 use Rattle.machine.specs.declared.call.Call.{Call}
 use Rattle.machine.proofs.State.{jobsOf}
 use Rattle.machine.proofs.SlotStep.{LegalSlot, Late, late-is}
 use Rattle.machine.proofs.CallCases.{ReleaseTaken, afterRelease}
-use Rattle.machine.proofs.CallKinds.{by-kind}
+use Rattle.machine.proofs.CallKinds.{pointOf, by-kind}
 use Rattle.machine.proofs.JobSteps.{released-job}
 use Rattle.machine.proofs.Kept.{Kept, kept-release, kept-call, slot-on-time, freshMachine, started, kept-fresh}
 use Rattle.machine.proofs.ClosesLaws.{closes-by-slot}
@@ -31,13 +31,13 @@ use Rattle.machine.proofs.InTimeLaws.{EntryInTime, EachInTime, quiet-re
 use Rattle.machine.proofs.Going.{Going}
 use Rattle.machine.proofs.Closing.{entryOf, closing}
 
--- an accepted join's task is added to the table, and nothing else changes it
-table-after : (m : Machine) (call : Call) → step m call .machine .table ≡ cond (isDone (step m call .outcome)) (joinedBy call (m .table)) (m .table)
-unfolding isDone joinedBy afterSlot withAssigned
-table-after m =
-    by-kind m (λ call answer. answer .machine .table ≡ cond (isDone (answer .outcome)) (joinedBy call (m .table)) (m .table))
+-- the table and what is held are at each point what the log tells: an accepted offer's task, and an accepted commit's in the table
+pub point-after : (m : Machine) (call : Call) → pointOf (step m call .machine) ≡ cond (isDone (step m call .outcome)) (pointBy call (pointOf m)) (pointOf m)
+unfolding isDone pointOf pointBy afterSlot withAssigned
+point-after m =
+    by-kind m (λ call answer. pointOf (answer .machine) ≡ cond (isDone (answer .outcome)) (pointBy call (pointOf m)) (pointOf m))
     (λ call number place told. refl)
-    (λ call m' silent. silent .table-is)
+    (λ call m' silent. silent .point-is)
     (λ k ran assigned taken. refl)
 
 module _ (m : Machine) (kept : Kept m) where
@@ -92,18 +92,18 @@ module _ (m : Machine) (kept : Kept m) where
       })
       (λ k ran assigned taken. record { not-late = slot-in-time ran assigned (taken .legal); closed = λ number need c d. clash cc })
 
-each-entry : (calls : List Call) (m : Machine) → Kept m → EachInTime (m .table) (play m calls)
-unfolding play
-each-entry [] m kept = each-none (m .table)
+each-entry : (calls : List Call) (m : Machine) → Kept m → EachInTime (pointOf m) (play m calls)
+unfolding play pointOf
+each-entry [] m kept = each-none (pointOf m)
 each-entry (call ∷ calls) m kept =
     let answer = step m call in
-    each-more (m .table) (answer .machine .table) (entryOf call answer) (play (answer .machine) calls)
+    each-more (pointOf m) (pointOf (answer .machine)) (entryOf call answer) (play (answer .machine) calls)
     (entry-in-time m kept calls call)
-    (table-after m call)
+    (point-after m call)
     (each-entry calls (answer .machine) (kept-call m kept call))
 
 pub promise : (t : Table) (cores : ℕ) → Promise t cores
-unfolding Promise freshMachine
+unfolding Promise freshMachine pointOf
 promise t cores yes-admitted calls =
     rw (started t cores yes-admitted) (each-in-time _ _ (each-entry calls (freshMachine t cores) (kept-fresh t cores yes-admitted)))
 

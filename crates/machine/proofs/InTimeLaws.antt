@@ -1,7 +1,7 @@
 -- The claim of a log, entry by entry: `each-in-time`. The claim of one entry is `EntryInTime`; `quiet-in-time` gives that of an entry that reports
 -- nothing and is no release; `each-none` and `each-more` put them together, for the empty log and for one entry in front.
 use Prim.Native.Nat.{ℕ, _-_, _≤_}
-use mathlib.Core.Path.{_≡_}
+use mathlib.Core.Path.{_≡_, subst}
 use mathlib.Core.Bool.{true, false, cond}
 use mathlib.Core.List.{List, [], _∷_, _++_}
 use lib.ListN.{getD}
@@ -13,7 +13,8 @@ use Rattle.tasks.specs.Limits.{maxTasks}
 use Rattle.machine.specs.Slot.{noReport}
 use Rattle.tasks.specs.Outcome.{isDone}
 use Rattle.machine.specs.Play.{Entry}
-use Rattle.machine.specs.InTime.{slotCount, joinedBy, tableAfter, closedBySlot, InTime}
+use Rattle.machine.specs.InTime.{slotCount, Point, pointBy, pointAfter, tableAfter, closedBySlot, InTime}
+use Rattle.machine.specs.declared.held.Held.the-variants.{None}
 use Rattle.machine.specs.declared.call.Call.the-variants.{Release}
 
 -- the claim of one entry that a machine on the table t answers, with the log after it
@@ -39,29 +40,30 @@ quiet-in-time t x log quiet no-release =
       closed = λ number need e d. absurd (no-release number need e d);
     }
 
--- the claim of every entry of a log from a machine on the table t, each with the log after it
-abbrev pub EachInTime : Table → List Entry → Type 0
-EachInTime t log = (before after : List Entry) (e : Entry) → log ≡ before ++ e ∷ after → EntryInTime (tableAfter t before) e after
+-- the claim of every entry of a log from a machine at the point p, each with the log after it
+abbrev pub EachInTime : Point → List Entry → Type 0
+EachInTime p log = (before after : List Entry) (e : Entry) → log ≡ before ++ e ∷ after → EntryInTime (pointAfter p before .table) e after
 
-pub each-none : (t : Table) → EachInTime t []
-each-none t [] after e split = clash cc
-each-none t (y ∷ before) after e split = clash cc
+pub each-none : (p : Point) → EachInTime p []
+each-none p [] after e split = clash cc
+each-none p (y ∷ before) after e split = clash cc
 
 pub each-more :
-    (t t' : Table) (x : Entry) (log : List Entry) → EntryInTime t x log
-    → t' ≡ cond (isDone (x .outcome)) (joinedBy (x .call) t) t → EachInTime t' log
-    → EachInTime t (x ∷ log)
-unfolding tableAfter
-each-more t t' x log first then-table rest [] after e split =
+    (p p' : Point) (x : Entry) (log : List Entry) → EntryInTime (p .table) x log
+    → p' ≡ cond (isDone (x .outcome)) (pointBy (x .call) p) p → EachInTime p' log
+    → EachInTime p (x ∷ log)
+unfolding pointAfter
+each-more p p' x log first then-point rest [] after e split =
     let same : x ≡ e = cc in
     let tail : log ≡ after = cc in
     rw (← same, ← tail) first
-each-more t t' x log first then-table rest (y ∷ before) after e split =
+each-more p p' x log first then-point rest (y ∷ before) after e split =
     let same : x ≡ y = cc in
     let tail : log ≡ before ++ e ∷ after = cc in
-    rw (← same, ← then-table) (rest before after e tail)
+    rw (← same) (subst (λ (q : Point). EntryInTime (pointAfter q before .table) e after) then-point (rest before after e tail))
 
-pub each-in-time : (t : Table) (log : List Entry) → EachInTime t log → InTime t log
+pub each-in-time : (t : Table) (log : List Entry) → EachInTime (record { table = t; offered = None }) log → InTime t log
+unfolding tableAfter
 each-in-time t log each =
     record {
       none-late = λ before after e split is-slot. each before after e split .not-late;

@@ -17,10 +17,12 @@ use Rattle.tasks.specs.TaskSet.{firstTasks, tasksOf}
 use Rattle.judge.specs.SlackJudge.{admission}
 use Rattle.job.specs.declared.job.Job.{Job}
 use Rattle.job.specs.Job.{freshJob}
-use Rattle.machine.specs.Machine.{jobAt, withJob}
+use Rattle.machine.specs.Machine.{jobAt, withJob, holding}
 use Rattle.machine.specs.Slot.{afterSlot}
 use Rattle.machine.specs.Cores.{withAssigned}
 use Rattle.machine.specs.Calls.{done, startAfter, start, withJoined, step}
+use Rattle.machine.specs.declared.held.Held.{Held}
+use Rattle.machine.specs.declared.held.Held.the-variants.{None}
 use Rattle.machine.specs.declared.machine.Machine.{Machine}
 use Rattle.machine.specs.declared.call.Call.{Call}
 use Rattle.machine.proofs.State.{jobsOf}
@@ -29,7 +31,7 @@ use Rattle.tasks.proofs.TaskSetLaws.{well-checked}
 use Rattle.judge.proofs.Admitted.{SlackAdmits, admission-means}
 use Rattle.laws.proofs.Replaced.{replicate-entry, length-replaced}
 use Rattle.machine.proofs.SoundLaws.{sound-fits}
-use Rattle.machine.proofs.CallCases.{ReleaseTaken, FinishTaken, JoinTaken, afterRelease, afterFinish, by-call}
+use Rattle.machine.proofs.CallCases.{ReleaseTaken, FinishTaken, CommitTaken, afterRelease, afterFinish, by-call}
 use Rattle.machine.proofs.JobSteps.{release-step, finish-step, join-step}
 
 pub record Kept (m : Machine) : Type 0 where
@@ -40,7 +42,7 @@ pub record Kept (m : Machine) : Type 0 where
 
 -- the machine of a start that is not refused
 unfoldable pub freshMachine : Table → (cores : ℕ) → Machine
-freshMachine t cores = record { table = t; cores = cores; jobs = replicate maxTasks freshJob; assigned = replicate maxTasks 0 }
+freshMachine t cores = record { table = t; cores = cores; jobs = replicate maxTasks freshJob; assigned = replicate maxTasks 0; held = None }
 
 module _ (t : Table) (cores : ℕ) (yes-admitted : admission t cores .admits ≡ true) where
   means : SlackAdmits t cores
@@ -89,10 +91,15 @@ module _ (m : Machine) (kept : Kept m) where
       (safe-finish _ (sound-fits m (taken .task .is-sound)) _ _ _ (kept .safe) _ (taken .task .inside)
       (finish-step m (kept .all-jobs) number taken))
 
-  kept-join : (t : Task) → JoinTaken m t → Kept (withJoined m t)
+  -- what is held plays no part
+  kept-offer : (held : Held) → Kept (holding m held)
+  unfolding holding jobsOf jobAt
+  kept-offer held = record { safe = kept .safe; admits = kept .admits; all-jobs = kept .all-jobs }
+
+  kept-commit : (t : Task) → CommitTaken m t → Kept (withJoined m t)
   unfolding withJoined
-  kept-join t taken =
-      let longer = admission-means (withTask (m .table) t) (m .cores) (taken .admits) in
+  kept-commit t taken =
+      let longer = admission-means (withTask (m .table) t) (m .cores) (taken .fits .admits) in
       record {
         safe = safe-join _ _ _ _ _ (well-checked _ _ (longer .checks)) (join-step m t) (kept .safe);
         admits = longer .admits;
@@ -123,4 +130,5 @@ module _ (m : Machine) (kept : Kept m) where
       kept-release
       kept-finish
       (λ k ran assigned taken. kept-slot ran assigned (taken .legal))
-      kept-join
+      (λ t taken. kept-offer _)
+      kept-commit

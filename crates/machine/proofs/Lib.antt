@@ -1,4 +1,5 @@
 pub mod State
+pub mod OfferLaws
 pub mod SoundLaws
 pub mod Waiting
 pub mod PickLaws

@@ -26,13 +26,14 @@ pub record Turned (m₀ : Machine) (ran : List Bool) (assigned : List ℕ) (m : 
   pub same-cores : m .cores ≡ m₀ .cores
   pub jobs-are : m .jobs ≡ replaced i (λ k. settled (passed m₀ ran k)) (m₀ .jobs)
   pub assigned-are : m .assigned ≡ replaced i (λ k. getD assigned k 0) (m₀ .assigned)
+  pub same-held : m .held ≡ m₀ .held
   pub finished-are : finished ≡ replaced i (λ k. isFinished (passed m₀ ran k)) (replicate maxTasks false)
   pub late-are : late ≡ replaced i (λ k. isLate (passed m₀ ran k)) (replicate maxTasks false)
 
 pub turned-none : (m : Machine) (ran : List Bool) (assigned : List ℕ) → Turned m ran assigned m (replicate maxTasks false) (replicate maxTasks false) 0
 unfolding replaced
 turned-none m ran assigned =
-    record { same-table = refl; same-cores = refl; jobs-are = refl; assigned-are = refl; finished-are = refl; late-are = refl }
+    record { same-table = refl; same-cores = refl; jobs-are = refl; assigned-are = refl; same-held = refl; finished-are = refl; late-are = refl }
 
 module _
     (m₀ : Machine)
@@ -52,7 +53,13 @@ module _
     pub turned-more :
         (j : Job) → j ≡ aged (charged (getD ran i false) (getD (m .jobs) i freshJob))
         → Turned m₀ ran assigned
-        (record { table = m .table; cores = m .cores; jobs = set (m .jobs) i (settled j); assigned = set (m .assigned) i (getD assigned i 0) })
+        (record {
+          table = m .table;
+          cores = m .cores;
+          jobs = set (m .jobs) i (settled j);
+          assigned = set (m .assigned) i (getD assigned i 0);
+          held = m .held;
+        })
         (set finished i (isFinished j)) (set late i (isLate j)) (i + 1)
     unfolding replaced passed
     turned-more j e =
@@ -62,6 +69,7 @@ module _
           same-cores = t .same-cores;
           jobs-are = rw (add-one i, p, t .jobs-are);
           assigned-are = rw (add-one i, t .assigned-are);
+          same-held = t .same-held;
           finished-are = rw (add-one i, p, t .finished-are);
           late-are = rw (add-one i, p, t .late-are);
         }
@@ -77,7 +85,8 @@ pub turned-all :
 unfolding afterSlot withAssigned slotReport
 turned-all m₀ ran assigned m finished late n t q =
     λ i. record {
-      machine = record { table = t .same-table i; cores = t .same-cores i; jobs = t .jobs-are i; assigned = t .assigned-are i };
+      machine =
+          record { table = t .same-table i; cores = t .same-cores i; jobs = t .jobs-are i; assigned = t .assigned-are i; held = t .same-held i };
       outcome = Done;
       report = record { ran = ran; finished = t .finished-are i; late = t .late-are i; runners = q i; assigned = assigned };
     }

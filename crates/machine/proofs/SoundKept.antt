@@ -18,26 +18,30 @@ use Rattle.tasks.specs.Limits.{maxTasks, maxCores}
 use Rattle.tasks.specs.Refusals.{slotCoresOutOfRange}
 use Rattle.tasks.specs.Check.{checked}
 use Rattle.tasks.specs.Table.{zeroTask, withTask}
+use Rattle.tasks.specs.Outcome.{isDone}
 use Rattle.tasks.proofs.OutcomeLaws.{by-outcome}
 use Rattle.judge.proofs.Admitted.{admission-means}
 use Rattle.job.specs.declared.job.Job.{Job}
 use Rattle.job.specs.Job.{freshJob}
 use Rattle.job.specs.Sound.{jobSound}
 use Rattle.job.proofs.SoundLaws.{gap-within, fresh-sound, released-sound, ended-sound, slot-sound}
-use Rattle.machine.specs.Machine.{taskAt, jobAt, withJob}
+use Rattle.machine.specs.Machine.{taskAt, jobAt, withJob, holding}
 use Rattle.machine.specs.Slot.{passed, afterSlot}
 use Rattle.machine.specs.Cores.{withAssigned}
+use Rattle.machine.specs.Offer.{heldSound}
 use Rattle.machine.specs.Sound.{sound}
+use Rattle.machine.specs.declared.held.Held.{Held}
+use Rattle.machine.specs.declared.held.Held.the-variants.{Offered}
 use Rattle.machine.specs.Calls.{done, refuse, startAfter, start, slotCoresInRange, slot, withJoined, step}
 use Rattle.machine.specs.Play.{machineAfter}
 use Rattle.machine.specs.declared.machine.Machine.{Machine}
 use Rattle.machine.specs.declared.call.Call.{Call}
 use Rattle.machine.proofs.State.{job-set, job-unset, job-other}
-use Rattle.machine.proofs.SoundLaws.{make-sound, sound-checks, sound-passes, sound-job, sound-cores}
+use Rattle.machine.proofs.SoundLaws.{make-sound, sound-checks, sound-passes, sound-job, sound-cores, sound-held}
 use Rattle.machine.proofs.CoresKept.{fresh-cores, slot-cores, join-cores}
 use Rattle.machine.proofs.SlotStep.{after-slot-job}
 use Rattle.machine.proofs.JobSteps.{old-job, new-job}
-use Rattle.machine.proofs.CallCases.{ReleaseTaken, FinishTaken, SlotTaken, JoinTaken, afterRelease, afterFinish, by-call}
+use Rattle.machine.proofs.CallCases.{ReleaseTaken, FinishTaken, SlotTaken, OfferTaken, CommitTaken, afterRelease, afterFinish, by-call}
 
 -- the machine is sound, and has so many cores
 pub record SoundOn (cores : ℕ) (m : Machine) : Type 0 where
@@ -62,7 +66,8 @@ module _ (m : Machine) (ok : sound m ≡ true) where
             by-equal k i
             (λ e. rw e (set-sound i j fine))
             (λ ne. rw (job-other m i j k ne) (sound-job m ok k h)))
-            (sound-cores m ok);
+            (sound-cores m ok)
+            (sound-held m ok);
         cores-are = refl;
       }
 
@@ -89,9 +94,20 @@ module _ (m : Machine) (ok : sound m ≡ true) where
       record {
         is-sound =
             make-sound (withAssigned (afterSlot m ran) assigned) (sound-checks m ok) (slot-job ran)
-            (slot-cores (m .table .count) k ran assigned (m .assigned) (taken .placed) (taken .few-cores));
+            (slot-cores (m .table .count) k ran assigned (m .assigned) (taken .placed) (taken .few-cores))
+            (sound-held m ok);
         cores-are = refl;
       }
+
+  -- whatever is held, if an offer of it passes
+  holding-keeps : (held : Held) → heldSound held (m .table) (m .cores) ≡ true → SoundOn (m .cores) (holding m held)
+  unfolding holding taskAt jobAt
+  holding-keeps held fits =
+      record { is-sound = make-sound (holding m held) (sound-checks m ok) (sound-job m ok) (sound-cores m ok) fits; cores-are = refl }
+
+  offer-keeps : (t : Task) → OfferTaken m t → SoundOn (m .cores) (holding m (Offered t))
+  unfolding heldSound isDone
+  offer-keeps t taken = holding-keeps (Offered t) (rw (taken .passes))
 
   -- the tasks that a longer table had, with their jobs, and the new one
   module _ (t : Task) where
@@ -105,13 +121,14 @@ module _ (m : Machine) (ok : sound m ≡ true) where
         (λ last. let e : i ≡ m .table .count = omega arith in rw (e, new-job m t) (fresh-sound _))
         (λ old. rw (old-task i old, old-job m t i old) (sound-job m ok i old))
 
-    join-keeps : JoinTaken m t → SoundOn (m .cores) (withJoined m t)
-    unfolding withJoined withTask
-    join-keeps taken =
+    commit-keeps : CommitTaken m t → SoundOn (m .cores) (withJoined m t)
+    unfolding withJoined withTask heldSound
+    commit-keeps taken =
         record {
           is-sound =
-              make-sound (withJoined m t) (admission-means (withTask (m .table) t) (m .cores) (taken .admits) .checks) each-job
-              (join-cores (m .table .count) (m .assigned) (sound-cores m ok));
+              make-sound (withJoined m t) (admission-means (withTask (m .table) t) (m .cores) (taken .fits .admits) .checks) each-job
+              (join-cores (m .table .count) (m .assigned) (sound-cores m ok))
+              refl;
           cores-are = refl;
         }
 
@@ -122,7 +139,8 @@ module _ (m : Machine) (ok : sound m ≡ true) where
       release-keeps
       finish-keeps
       slot-keeps
-      join-keeps
+      offer-keeps
+      commit-keeps
 
 -- a start is refused where its table or its cores are
 pub start-outcome : (t : Table) (cores : ℕ) → start t cores .outcome ≡ checked t cores
@@ -135,12 +153,13 @@ module _ (t : Table) (cores : ℕ) (starts : start t cores .outcome ≡ Done) wh
   checks = sym (start-outcome t cores) ∙ starts
 
   pub start-sound : SoundOn cores (start t cores .machine)
-  unfolding start startAfter done jobAt
+  unfolding start startAfter done jobAt heldSound
   start-sound =
       rw checks
       (record {
         is-sound =
-            make-sound _ checks (λ i h. rw (replicate-entry maxTasks i freshJob) (fresh-sound _)) (fresh-cores (t .count) maxTasks);
+            make-sound _ checks (λ i h. rw (replicate-entry maxTasks i freshJob) (fresh-sound _)) (fresh-cores (t .count) maxTasks)
+            refl;
         cores-are = refl;
       })
 

@@ -1,7 +1,7 @@
--- What a sound machine is. Others cite: `one-unsound`, and `make-sound`, from its table, cores, jobs and recorded cores; `sound-checks` and `sound-passes`,
+-- What a sound machine is. Others cite: `one-unsound`, and `make-sound`, from its table, cores, jobs, recorded cores and held task; `sound-checks` and `sound-passes`,
 -- that its table and cores pass `checked`; `sound-fits`, that its tasks are well formed; `sound-job`, that each job is sound; `sound-closed`, that a
 -- closed task has no job; `sound-free`, that a task without a gap is closed; `sound-small`, that the left and budget of an open one are below 2^20;
--- and `sound-cores`, that its recorded cores are sound.
+-- `sound-cores`, that its recorded cores are sound; `sound-held`, that what it holds is; and `held-fits`, that an offer of the held task passes.
 use Prim.Native.Nat.{ℕ, zero, suc, _<_}
 use mathlib.Core.Path.{_≡_, refl}
 use mathlib.Core.Bool.{true, false, _&&_}
@@ -11,6 +11,7 @@ use Rattle.laws.proofs.CaseSplits.{by-equal, by-test, not-both}
 use Rattle.laws.proofs.Booleans.{and-left, and-right}
 use Rattle.edzl.proofs.WellFormed.{WellFormed}
 use Rattle.edzl.proofs.Invariant.{NoJob}
+use Rattle.tasks.specs.declared.task.Task.{Task}
 use Rattle.tasks.specs.declared.outcome.Outcome.the-variants.{Done}
 use Rattle.tasks.specs.Check.{checked}
 use Rattle.tasks.specs.Outcome.{isDone}
@@ -24,9 +25,12 @@ use Rattle.cores.specs.Record.{coresSound}
 use Rattle.job.proofs.RankLaws.{Small}
 use Rattle.job.proofs.SoundLaws.{closed-numbers, open-numbers, free-closed}
 use Rattle.machine.specs.Machine.{taskAt, jobAt}
+use Rattle.machine.specs.Offer.{heldSound}
 use Rattle.machine.specs.Sound.{jobsSound, sound}
+use Rattle.machine.specs.declared.held.Held.the-variants.{Offered}
 use Rattle.machine.specs.declared.machine.Machine.{Machine}
 use Rattle.machine.proofs.State.{jobsOf}
+use Rattle.machine.proofs.OfferLaws.{OfferFits, offer-fits}
 
 each-sound : (m : Machine) (n : ℕ) → jobsSound m n ≡ true → (i : ℕ) → i < n → jobSound (taskAt m i) (jobAt m i) ≡ true
 unfolding jobsSound
@@ -51,22 +55,35 @@ pub make-sound :
     (m : Machine) → checked (m .table) (m .cores) ≡ Done
     → ((i : ℕ) → i < m .table .count → jobSound (taskAt m i) (jobAt m i) ≡ true)
     → coresSound (take (m .table .count) (m .assigned)) ≡ true
+    → heldSound (m .held) (m .table) (m .cores) ≡ true
     → sound m ≡ true
 unfolding sound isDone
-make-sound m checks each placed = rw (checks, all-sound m (m .table .count) each, placed)
+make-sound m checks each placed fits = rw (checks, all-sound m (m .table .count) each, placed) fits
 
 module _ (m : Machine) (ok : sound m ≡ true) where
-  -- its table, cores and jobs
-  pub before-cores : (isDone (checked (m .table) (m .cores)) && jobsSound m (m .table .count)) ≡ true
+  -- all but the held task, and all but that and the recorded cores
+  before-held :
+      (isDone (checked (m .table) (m .cores)) && jobsSound m (m .table .count) && coresSound (take (m .table .count) (m .assigned))) ≡ true
   unfolding sound
-  before-cores = and-left _ (coresSound (take (m .table .count) (m .assigned))) ok
+  before-held = and-left _ (heldSound (m .held) (m .table) (m .cores)) ok
+
+  before-cores : (isDone (checked (m .table) (m .cores)) && jobsSound m (m .table .count)) ≡ true
+  before-cores = and-left _ (coresSound (take (m .table .count) (m .assigned))) before-held
 
   pub sound-checks : checked (m .table) (m .cores) ≡ Done
   sound-checks = is-done _ (and-left _ _ before-cores)
 
   pub sound-cores : coresSound (take (m .table .count) (m .assigned)) ≡ true
+  sound-cores = and-right (isDone (checked (m .table) (m .cores)) && jobsSound m (m .table .count)) _ before-held
+
+  pub sound-held : heldSound (m .held) (m .table) (m .cores) ≡ true
   unfolding sound
-  sound-cores = and-right (isDone (checked (m .table) (m .cores)) && jobsSound m (m .table .count)) _ ok
+  sound-held =
+      and-right (isDone (checked (m .table) (m .cores)) && jobsSound m (m .table .count) && coresSound (take (m .table .count) (m .assigned))) _ ok
+
+  pub held-fits : (t : Task) → m .held ≡ Offered t → OfferFits (m .table) (m .cores) t
+  unfolding heldSound
+  held-fits t e = offer-fits (m .table) (m .cores) t (is-done _ (rw e at sound-held))
 
   pub sound-passes : Passes (m .table) (m .cores)
   sound-passes = passes (m .table) (m .cores) sound-checks

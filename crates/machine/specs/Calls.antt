@@ -1,5 +1,5 @@
 -- The calls of the machine: document 01, "The slot machine" and "Why a call is not carried out"; a slot by document 02, change 1, a release by
--- changes 3 and 5, the cores of a start, a slot and a join by change 4, and a join's verdict by change 6.
+-- changes 3 and 5, the cores of a start and a slot by change 4, and offer and commit, which a join became, by change 10.
 use Prim.Native.Nat.{ℕ, _-_}
 use mathlib.Core.Bool.{Bool, cond, not, _&&_}
 use lib.Dec.{leb, ltb}
@@ -9,34 +9,36 @@ use Rattle.tasks.specs.declared.table.Table.{Table}
 use Rattle.tasks.specs.declared.outcome.Outcome.{Outcome}
 use Rattle.tasks.specs.declared.outcome.Outcome.the-variants.{Done, Refused}
 use Rattle.tasks.specs.Limits.{maxTasks, maxCores}
-use Rattle.tasks.specs.Refusals.{unsoundMachine, taskOutOfRange, noSuchTask, releasedTooSoon, jobNotOpen, tableFull, notAdmitted, slotCoresOutOfRange, needOutOfRange}
-use Rattle.tasks.specs.Task.{inRange}
+use Rattle.tasks.specs.Refusals.{unsoundMachine, noSuchTask, releasedTooSoon, jobNotOpen, slotCoresOutOfRange, needOutOfRange, noHeldTask}
 use Rattle.tasks.specs.Table.{withTask}
 use Rattle.tasks.specs.Check.{checked}
-use Rattle.judge.specs.SlackJudge.{admission}
 use Rattle.job.specs.Job.{freshJob, needInRange, releasedJob, closedJob}
-use Rattle.machine.specs.Machine.{zeroMachine, taskAt, jobAt, withJob, inTable}
+use Rattle.machine.specs.Machine.{zeroMachine, taskAt, jobAt, withJob, holding, inTable}
 use Rattle.machine.specs.Pick.{runners}
 use Rattle.machine.specs.Slot.{noReport, slotReport, afterSlot}
 use Rattle.machine.specs.Cores.{slotAssignment, withAssigned}
+use Rattle.machine.specs.Offer.{offerChecked}
 use Rattle.machine.specs.Sound.{sound}
+use Rattle.machine.specs.declared.held.Held.{Held}
+use Rattle.machine.specs.declared.held.Held.the-variants.{None, Offered}
 use Rattle.machine.specs.declared.machine.Machine.{Machine}
 use Rattle.machine.specs.declared.call.Call.{Call}
-use Rattle.machine.specs.declared.call.Call.the-variants.{Release, Finish, Slot, Join}
+use Rattle.machine.specs.declared.call.Call.the-variants.{Release, Finish, Slot, Offer, Commit}
 use Rattle.machine.specs.declared.answer.Answer.{Answer}
 
 -- a call that is carried out and reports nothing
 unfoldable pub done : Machine → Answer
 done m = record { machine = m; outcome = Done; report = noReport }
 
--- "a refused call the same machine"; "every other refusal, and a join's 5, carries 0"
+-- "a refused call the same machine"; "every other refusal, and a join's 5, carries 0", by change 10 an offer's
 unfoldable pub refuse : Machine → (number : ℕ) → Answer
 refuse m number = record { machine = m; outcome = Refused number 0; report = noReport }
 
 -- a start, after the refusals of starting were tried: "A fresh machine has every task closed and all three numbers 0"; change 4: "no core, .. at a
--- start"
+-- start"; it holds no task
 unfoldable pub startAfter : Outcome → Table → (cores : ℕ) → Answer
-startAfter Done t cores = done (record { table = t; cores = cores; jobs = replicate maxTasks freshJob; assigned = replicate maxTasks 0 })
+startAfter Done t cores =
+    done (record { table = t; cores = cores; jobs = replicate maxTasks freshJob; assigned = replicate maxTasks 0; held = None })
 startAfter (Refused number place) t cores =
     record { machine = zeroMachine; outcome = Refused number place; report = noReport }
 
@@ -76,7 +78,16 @@ slot m k =
     (cond (not (slotCoresInRange m k)) (refuse m slotCoresOutOfRange)
     (record { machine = withAssigned (afterSlot m ran) assigned; outcome = Done; report = slotReport m ran assigned }))
 
--- "added at the end of the table, closed, gap 0", with no core
+-- an offer, after its checks: "holds the task in the machine, displacing an earlier offer; a refused offer changes nothing"
+unfoldable pub offerAfter : Outcome → Machine → Task → Answer
+offerAfter Done m t = done (holding m (Offered t))
+offerAfter (Refused number place) m t = record { machine = m; outcome = Refused number place; report = noReport }
+
+-- change 10: "Offer runs join's checks", after 0
+unfoldable pub offer : Machine → Task → Answer
+offer m t = cond (not (sound m)) (refuse m unsoundMachine) (offerAfter (offerChecked (m .table) (m .cores) t) m t)
+
+-- "added at the end of the table, closed, gap 0", with no core; change 10: "and holds none"
 unfoldable pub withJoined : Machine → Task → Machine
 withJoined m t =
     record {
@@ -84,25 +95,22 @@ withJoined m t =
       cores = m .cores;
       jobs = set (m .jobs) (m .table .count) freshJob;
       assigned = set (m .assigned) (m .table .count) 0;
+      held = None;
     }
 
--- a join, after the verdict on the longer table: "if the longer table is admitted on m cores"; "A join whose verdict is a refusal ends there with
--- that refusal."
-unfoldable pub joinAfter : Outcome → (admits : Bool) → Machine → Task → Answer
-joinAfter Done admits m t = cond admits (done (withJoined m t)) (refuse m notAdmitted)
-joinAfter (Refused number place) admits m t = record { machine = m; outcome = Refused number place; report = noReport }
+-- a commit, by what the machine holds: "Commit adds the held task"; "Commit with no held task: number 17"
+unfoldable pub commitHeld : Held → Machine → Answer
+commitHeld None m = refuse m noHeldTask
+commitHeld (Offered t) m = done (withJoined m t)
 
--- "Join: 5, 12, 13", after 0; change 6: "Joins .. go by this test"
-unfoldable pub join : Machine → Task → Answer
-join m t =
-    let verdict = admission (withTask (m .table) t) (m .cores) in
-    cond (not (sound m)) (refuse m unsoundMachine)
-    (cond (not (inRange t)) (refuse m taskOutOfRange)
-    (cond (leb maxTasks (m .table .count)) (refuse m tableFull) (joinAfter (verdict .outcome) (verdict .admits) m t)))
+-- change 10: number 17, after 0
+unfoldable pub commit : Machine → Answer
+commit m = cond (not (sound m)) (refuse m unsoundMachine) (commitHeld (m .held) m)
 
--- "A call is one of release, finish, slot and join"
+-- "A call is one of release, finish, slot and join"; change 10: "Join becomes two calls."
 unfoldable pub step : Machine → Call → Answer
 step m (Release number need) = release m number need
 step m (Finish number) = finish m number
 step m (Slot k) = slot m k
-step m (Join t) = join m t
+step m (Offer t) = offer m t
+step m Commit = commit m

@@ -15,7 +15,7 @@ use Rattle.machine.specs.Slot.{noReport}
 use Rattle.machine.specs.Play.{Entry}
 use Rattle.machine.specs.InTime.{slotCount, closedBySlot, tableAfter}
 use Rattle.machine.specs.declared.call.Call.{Call}
-use Rattle.machine.specs.declared.call.Call.the-variants.{Release, Finish, Slot, Join}
+use Rattle.machine.specs.declared.call.Call.the-variants.{Release, Finish, Slot, Offer, Commit}
 
 -- a slot of a log made by hand, by what it says of task 1: whether it ran, and whether it finished; of the others it says nothing
 unfoldable pub slotOf : (ran finished : Bool) → Entry
@@ -54,6 +54,10 @@ closedIn need deadline log = closedBySlot 1 need deadline log
 unfoldable pub threeTasks : Table
 threeTasks = tableOf (replicate 3 (task 6 2 5))
 
+-- the deadline of the fourth task after a log
+unfoldable pub fourth : List Entry → ℕ
+fourth log = getD (tableAfter threeTasks log .tasks) 3 zeroTask .deadline
+
 -- what the claim says of logs
 unfoldable pub claims : List Bool
 claims =
@@ -76,7 +80,7 @@ claims =
     -- no other call counts as a slot or as a finish
     closedIn 1 2 (acceptedCall (Release 2 1) ∷ idle ∷ ranLast ∷ []) ∷
     not (closedIn 1 1 (acceptedCall (Release 1 1) ∷ idle ∷ [])) ∷
-    not (closedIn 1 1 (acceptedCall (Join (task 9 1 2)) ∷ idle ∷ [])) ∷
+    not (closedIn 1 1 (acceptedCall (Offer (task 9 1 2)) ∷ acceptedCall Commit ∷ idle ∷ [])) ∷
     -- an accepted finish of the task, before the deadline
     closedIn 2 2 (idle ∷ acceptedCall (Finish 1) ∷ idle ∷ []) ∷
     not (closedIn 2 2 (refusedCall (Finish 1) ∷ idle ∷ idle ∷ [])) ∷
@@ -86,8 +90,17 @@ claims =
     not (closedBySlot 2 1 2 (idle ∷ ranLast ∷ [])) ∷
     closedBySlot 2 1 1 (acceptedCall (Finish 2) ∷ idle ∷ []) ∷
     not (closedBySlot 2 1 1 (acceptedCall (Finish 1) ∷ idle ∷ [])) ∷
-    -- an accepted join adds its task, a refused one does not
-    eqb (tableAfter threeTasks (acceptedCall (Join (task 9 1 2)) ∷ []) .count) 4 ∷
-    eqb (tableAfter threeTasks (refusedCall (Join (task 9 1 2)) ∷ []) .count) 3 ∷
-    eqb (getD (tableAfter threeTasks (acceptedCall (Release 1 1) ∷ acceptedCall (Join (task 9 1 2)) ∷ []) .tasks) 3 zeroTask .deadline) 2 ∷
+    -- an accepted commit adds the task of the last accepted offer, an offer alone or a refused commit adds none
+    eqb (tableAfter threeTasks (acceptedCall (Offer (task 9 1 2)) ∷ acceptedCall Commit ∷ []) .count) 4 ∷
+    eqb (tableAfter threeTasks (acceptedCall (Offer (task 9 1 2)) ∷ []) .count) 3 ∷
+    eqb (tableAfter threeTasks (acceptedCall (Offer (task 9 1 2)) ∷ refusedCall Commit ∷ []) .count) 3 ∷
+    eqb (fourth (acceptedCall (Release 1 1) ∷ acceptedCall (Offer (task 9 1 2)) ∷ idle ∷ acceptedCall Commit ∷ [])) 2 ∷
+    -- a later accepted offer displaces it, a refused one does not
+    eqb (fourth (acceptedCall (Offer (task 9 1 2)) ∷ acceptedCall (Offer (task 9 1 3)) ∷ acceptedCall Commit ∷ [])) 3 ∷
+    eqb (fourth (acceptedCall (Offer (task 9 1 2)) ∷ refusedCall (Offer (task 9 1 3)) ∷ acceptedCall Commit ∷ [])) 2 ∷
+    -- since the last accepted commit: each commit adds the offer after the one before
+    eqb (fourth (acceptedCall (Offer (task 9 1 2)) ∷ acceptedCall Commit ∷ acceptedCall (Offer (task 9 1 3)) ∷ acceptedCall Commit ∷ [])) 2 ∷
+    eqb
+    (tableAfter threeTasks (acceptedCall (Offer (task 9 1 2)) ∷ acceptedCall Commit ∷ acceptedCall (Offer (task 9 1 3)) ∷ acceptedCall Commit ∷ []) .count)
+    5 ∷
     []

@@ -26,4 +26,5 @@ withAssigned m assigned =
       cores = m .cores;
       jobs = m .jobs;
       assigned = replaced (m .table .count) (λ i. getD assigned i 0) (m .assigned);
+      held = m .held;
     }

@@ -12,23 +12,27 @@ use Rattle.tasks.specs.Outcome.{isDone}
 use Rattle.judge.specs.SlackJudge.{admission}
 use Rattle.machine.specs.Calls.{start}
 use Rattle.machine.specs.Play.{Entry, play}
+use Rattle.machine.specs.declared.held.Held.{Held}
+use Rattle.machine.specs.declared.held.Held.the-variants.{None, Offered}
 use Rattle.machine.specs.declared.call.Call.{Call}
 use Rattle.machine.specs.declared.answer.Answer.{Answer}
-use Rattle.machine.specs.declared.call.Call.the-variants.{Release, Finish, Slot, Join}
+use Rattle.machine.specs.declared.call.Call.the-variants.{Release, Finish, Slot, Offer, Commit}
 
 -- the call is a slot
 unfoldable pub isSlot : Call → Bool
 isSlot (Release number need) = false
 isSlot (Finish number) = false
 isSlot (Slot k) = true
-isSlot (Join task) = false
+isSlot (Offer task) = false
+isSlot Commit = false
 
 -- the call is a finish of the task of this number
 unfoldable pub isFinishOf : (number : ℕ) → Call → Bool
 isFinishOf number (Release other need) = false
 isFinishOf number (Finish other) = eqb other number
 isFinishOf number (Slot k) = false
-isFinishOf number (Join task) = false
+isFinishOf number (Offer task) = false
+isFinishOf number Commit = false
 
 -- an accepted slot: "A call is accepted when it is not refused"
 unfoldable pub acceptedSlot : Entry → Bool
@@ -73,17 +77,32 @@ unfoldable pub closedBySlot : (number need deadline : ℕ) → (after : List Ent
 closedBySlot number need deadline after =
     let window = upToSlot deadline after in ranWhole number need window || anyFinish number window
 
--- the table after an accepted call: a join adds its task
-unfoldable pub joinedBy : Call → Table → Table
-joinedBy (Release number need) t = t
-joinedBy (Finish number) t = t
-joinedBy (Slot k) t = t
-joinedBy (Join task) t = withTask t task
+-- what a log tells at a point of it: the table, and the task of the last accepted offer since the last accepted commit, if there is one
+pub record Point : Type 0 where
+  pub table : Table
+  pub offered : Held
 
--- the table after some calls: the one started on, with the task of each accepted join
+-- document 02, change 10: a commit "adds the held task"; no machine accepts one that no accepted offer precedes
+unfoldable pub committed : Held → Table → Table
+committed None t = t
+committed (Offered task) t = withTask t task
+
+-- the point after an accepted call: an offer is "displacing an earlier offer", and a commit "adds the held task and holds none"
+unfoldable pub pointBy : Call → Point → Point
+pointBy (Release number need) p = p
+pointBy (Finish number) p = p
+pointBy (Slot k) p = p
+pointBy (Offer task) p = record { table = p .table; offered = Offered task }
+pointBy Commit p = record { table = committed (p .offered) (p .table); offered = None }
+
+-- the point after some calls, refused ones among them
+unfoldable pub pointAfter : Point → List Entry → Point
+pointAfter p [] = p
+pointAfter p (e ∷ log) = pointAfter (cond (isDone (e .outcome)) (pointBy (e .call) p) p) log
+
+-- the table after some calls: the one started on, with the task of each accepted commit
 unfoldable pub tableAfter : Table → List Entry → Table
-tableAfter t [] = t
-tableAfter t (e ∷ log) = tableAfter (cond (isDone (e .outcome)) (joinedBy (e .call) t) t) log
+tableAfter t log = pointAfter (record { table = t; offered = None }) log .table
 
 -- the whole claim of a log from a machine started on the table t
 pub record InTime (t : Table) (log : List Entry) : Type 0 where

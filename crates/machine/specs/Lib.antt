@@ -3,6 +3,7 @@ pub mod Pick
 pub mod Slot
 pub mod Cores
 pub mod Ranks
+pub mod Offer
 pub mod Sound
 pub mod Calls
 pub mod Play

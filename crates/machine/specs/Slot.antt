@@ -51,4 +51,5 @@ afterSlot m ran =
       cores = m .cores;
       jobs = replaced (m .table .count) (λ i. settled (passed m ran i)) (m .jobs);
       assigned = m .assigned;
+      held = m .held;
     }

@@ -5,12 +5,14 @@ use tasks::task::Task;
 ghost use mathlib.Core.Path.{_≡_};
 ghost use Rattle.machine.specs.Calls.{step};
 
-// Release and Finish name a task by its number, from 1; Release also the slots that the job will need, and Slot the number of cores that it has.
+// Release and Finish name a task by its number, from 1; Release also the slots that the job will need, and Slot the number of cores that it
+// has.
 pub enum Call {
     Release { number: u32, need: u32 },
     Finish(u32),
     Slot(u32),
-    Join(Task),
+    Offer(Task),
+    Commit,
 }
 
 impl Machine {
@@ -22,7 +24,8 @@ impl Machine {
             Call::Release { number, need } => self.release(number, need),
             Call::Finish(number) => self.finish(number),
             Call::Slot(available) => self.slot(available),
-            Call::Join(task) => self.join(task),
+            Call::Offer(task) => self.offer(task),
+            Call::Commit => self.commit(),
         }
     }
 }

@@ -1,4 +1,5 @@
 // The machine, and the numbers of its tasks.
+use crate::held::Held;
 use job::job::Job;
 use tasks::limits::MAX_TASKS;
 use tasks::table::PerTask;
@@ -8,13 +9,14 @@ ghost use mathlib.Core.Path.{_≡_};
 ghost use Rattle.tasks.specs.Limits.{maxTasks};
 ghost use Rattle.machine.specs.Machine.{withJob, inTable};
 
-// The table, the number of cores, and for each task its job and its core in the last accepted slot, 0 for none. Entries past the table's count are no
-// part of it.
+// The table, the number of cores, for each task its job and its core in the last accepted slot, 0 for none, and the task that an offer left, if one did.
+// Entries past the table's count are no part of it.
 pub struct Machine {
     pub table: Table,
     pub cores: u32,
     pub jobs: [Job; MAX_TASKS],
     pub assigned: PerTask,
+    pub held: Held,
 }
 
 impl Machine {

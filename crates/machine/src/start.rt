@@ -1,6 +1,7 @@
 // A start.
 use crate::answer::Answer;
 use crate::answer::Report;
+use crate::held::Held;
 use crate::machine::Machine;
 use job::job::fresh_job;
 use tasks::check::check;
@@ -22,6 +23,7 @@ pub fn zero_machine() -> Machine
         cores: 0,
         jobs: [fresh; MAX_TASKS],
         assigned: [0; MAX_TASKS],
+        held: Held::None,
     }
 }
 
@@ -46,6 +48,7 @@ impl Machine {
             cores,
             jobs: [fresh; MAX_TASKS],
             assigned: [0; MAX_TASKS],
+            held: Held::None,
         })
     }
 }

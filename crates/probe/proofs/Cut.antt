@@ -2,16 +2,17 @@
 -- fewer, and of a longer one the first bad line begins within these.
 use Prim.Native.Nat.{ℕ, zero, suc, _+_, _-_, _*_, _≤_, _<_}
 use native.Mathlib.Omega.{arith}
-use mathlib.Core.Path.{_≡_, refl}
+use mathlib.Core.Path.{_≡_, refl, ap}
 use mathlib.Core.Bool.{Bool, true, and-false}
 use mathlib.Core.List.{List, [], _∷_}
 use lib.ListN.{length, take, length-drop}
 use Rattle.laws.proofs.CaseSplits.{by-test, by-order}
 use Rattle.laws.proofs.Booleans.{and-left, and-right}
 use Rattle.text.specs.Lines.{lineEnd, has, before, after, firstIs, isEmpty}
-use Rattle.text.specs.Words.{beginsWith}
+use Rattle.text.specs.Words.{sameBytes, beginsWith}
 use Rattle.text.specs.Fields.{areNumbers}
 use Rattle.text.proofs.Lengths.{numbers-short}
+use Rattle.text.proofs.WordLaws.{same-is}
 use Rattle.text.proofs.Taken.{Taken, taken, untaken}
 use Rattle.machine.specs.declared.call.Call.{Call}
 use Rattle.machine.specs.declared.machine.Machine.{Machine}
@@ -21,9 +22,9 @@ use Rattle.script.specs.declared.calls.CallLine.{CallLine}
 use Rattle.script.specs.declared.calls.CallLine.the-variants as CallLine
 use Rattle.script.proofs.CallLaws.{longestCall, call-short}
 use Rattle.tasks.specs.Limits.{maxTasks}
-use Rattle.probe.specs.Words.{machineWord}
-use Rattle.probe.specs.Input.{isMachineLine, countOf, coresOf, zeroEntries, isEntryLine, entryTask, entryJob, entryCore, withEntry, onlyCall, lastLine}
-use Rattle.probe.specs.Printed.{printedFrom, printed}
+use Rattle.probe.specs.Words.{machineWord, noneWord, heldWord}
+use Rattle.probe.specs.Input.{isMachineLine, countOf, coresOf, zeroEntries, isEntryLine, entryTask, entryJob, entryCore, withEntry, isHeldLine, heldOf, onlyCall, lastLine}
+use Rattle.probe.specs.Printed.{printedHeld, printedFrom, printed}
 
 -- a first line that has at most b bytes with its byte 10 where it is what it must be
 module _ (must : List ℕ → Bool) (b : ℕ) (short : (l : List ℕ) → must l ≡ true → length l + 1 ≤ b) (k : ℕ) (s : List ℕ) (h : b ≤ k) where
@@ -43,12 +44,15 @@ module _ (must : List ℕ → Bool) (b : ℕ) (short : (l : List ℕ) → must l
       let n = short (before lineEnd s) (and-right (has lineEnd s) (must (before lineEnd s)) t) in
       (n, taken k s (omega arith))
 
--- the most bytes that the first line has with its byte 10, and the line of an entry
+-- the most bytes that the first line has with its byte 10, the line of an entry, and that of what is held
 abbrev machineLength : ℕ
 machineLength = length machineWord + 2 * (maxDigits + 1)
 
 abbrev entryLength : ℕ
 entryLength = 8 * (maxDigits + 1)
+
+abbrev heldLength : ℕ
+heldLength = length heldWord + 3 * (maxDigits + 1)
 
 machine-short : (l : List ℕ) → isMachineLine l ≡ true → length l + 1 ≤ machineLength
 unfolding isMachineLine
@@ -59,6 +63,15 @@ machine-short l t =
 entry-short : (l : List ℕ) → isEntryLine l ≡ true → length l + 1 ≤ entryLength
 unfolding isEntryLine
 entry-short l t = numbers-short maxDigits maxNumber 8 l (and-left (areNumbers maxDigits maxNumber 8 l) _ t)
+
+held-short : (l : List ℕ) → isHeldLine l ≡ true → length l + 1 ≤ heldLength
+unfolding isHeldLine
+held-short l t =
+    by-test (sameBytes l noneWord)
+    (λ none. omega (arith, ap length (same-is l noneWord none)))
+    (λ other.
+    let n = numbers-short maxDigits maxNumber 3 _ (and-right (beginsWith heldWord l) _ (rw other at t)) in
+    omega (arith, n, length-drop (length heldWord) l))
 
 -- of what follows the call only the first byte matters
 empty-same : (j : ℕ) (s : List ℕ) → 0 < j → isEmpty (take j s) ≡ isEmpty s
@@ -93,9 +106,21 @@ last-same k s h =
     let t = taken k s m in
     rw (t .is, t .line, t .rest, only-same (callOf l) (k - (length l + 1)) (after lineEnd s) (λ call e. omega (arith, call-short l call e))))
 
-entries-same : (m : Machine) (i more k : ℕ) (s : List ℕ) → entryLength * more + lastLength ≤ k → printedFrom m i more (take k s) ≡ printedFrom m i more s
+held-same : (m : Machine) (k : ℕ) (s : List ℕ) → heldLength + lastLength ≤ k → printedHeld m (take k s) ≡ printedHeld m s
+unfolding printedHeld
+held-same m k s h =
+    let l = before lineEnd s in
+    let same = first-same isHeldLine heldLength held-short k s (omega arith) in
+    by-test (firstIs isHeldLine s)
+    (λ b.
+    let (n, t) = first-taken isHeldLine heldLength held-short k s (omega arith) b in
+    rw (same, b, t .line, t .rest, last-same (k - (length l + 1)) (after lineEnd s) (omega arith)))
+    (λ b. rw (same, b))
+
+entries-same :
+    (m : Machine) (i more k : ℕ) (s : List ℕ) → entryLength * more + heldLength + lastLength ≤ k → printedFrom m i more (take k s) ≡ printedFrom m i more s
 unfolding printedFrom
-entries-same m i zero k s h = rw (last-same k s (omega arith))
+entries-same m i zero k s h = held-same m k s (omega arith)
 entries-same m i (suc more) k s h =
     let l = before lineEnd s in
     let same = first-same isEntryLine entryLength entry-short k s (omega arith) in
@@ -105,7 +130,7 @@ entries-same m i (suc more) k s h =
     rw (same, b, t .line, t .rest) (entries-same (withEntry m i (entryTask l) (entryJob l) (entryCore l)) (suc i) more (k - (length l + 1)) (after lineEnd s) (omega arith)))
     (λ b. rw (same, b))
 
-printed-same : (k : ℕ) (s : List ℕ) → machineLength + entryLength * maxTasks + lastLength ≤ k → printed (take k s) ≡ printed s
+printed-same : (k : ℕ) (s : List ℕ) → machineLength + entryLength * maxTasks + heldLength + lastLength ≤ k → printed (take k s) ≡ printed s
 unfolding printed
 printed-same k s h =
     let l = before lineEnd s in

@@ -17,9 +17,8 @@ use Rattle.tasks.specs.Limits.{maxTasks}
 use Rattle.tasks.specs.declared.task.Task.{Task}
 use Rattle.job.specs.declared.job.Job.{Job}
 use Rattle.machine.specs.declared.machine.Machine.{Machine}
-use Rattle.probe.specs.Input.{isEntryLine, entryTask, entryJob, entryCore, withEntry, entryFrom, lastLine}
-use Rattle.probe.specs.Printed.{printedAsked, printedFrom}
-use Rattle.probe.specs.declared.input.Asked.{Asked}
+use Rattle.probe.specs.Input.{isEntryLine, entryTask, entryJob, entryCore, withEntry, entryFrom}
+use Rattle.probe.specs.Printed.{printedAsked, printedHeld, printedFrom}
 use Rattle.probe.specs.declared.input.Asked.the-variants as Asked
 use Rattle.probe.specs.declared.input.EntryLine.the-variants.{Read, Bad}
 
@@ -56,12 +55,12 @@ pub fill-none : (m : Machine) (s : List ℕ) → Filling m s m 0 0
 fill-none m s = record { few = omega arith; within = omega arith; left = refl }
 
 module _ (m : Machine) (s : List ℕ) (m' : Machine) (place i : ℕ) (p : Filling m s m' place i) where
-  -- all entries were read, and the line of the call follows
-  pub filled : maxTasks ≤ i → (a : Asked) → a ≡ lastLine (from s place) → printedFrom m 0 maxTasks s ≡ printedAsked m' a
+  -- all entries were read, and the lines of what is held and of the call follow
+  pub filled : maxTasks ≤ i → (t : List ℕ) → printedHeld m' (from s place) ≡ t → printedFrom m 0 maxTasks s ≡ t
   unfolding printedFrom
-  filled h a e =
+  filled h t e =
       let z : maxTasks - i ≡ 0 = omega arith in
-      p .left ∙ rw (z, e, from-drop s place)
+      p .left ∙ rw (z, ← from-drop s place) e
 
   module _ (h : i < maxTasks) where
     another : maxTasks - i ≡ suc (maxTasks - (i + 1))

@@ -1,6 +1,6 @@
 -- What the first line of a text says, by what was found of it. Others cite, of the machine's line: `machine-unended`, `no-word`,
--- `no-pair` and `machine-read`; of an entry's: `entry-unended`, `no-eight`, `no-flag` and `entry-read`; of the call's: `call-unended`, `no-call`,
--- `more-follows` and `call-read`.
+-- `no-pair` and `machine-read`; of an entry's: `entry-unended`, `no-eight`, `no-flag` and `entry-read`; of what is held: `held-unended`, `none-read`,
+-- `no-held-word`, `no-held-task` and `held-read`; of the call's: `call-unended`, `no-call`, `more-follows` and `call-read`.
 use Prim.Native.Nat.{ℕ, _+_, _≤_, _<_}
 use native.Mathlib.Omega.{arith}
 use mathlib.Core.Path.{_≡_, sym, ap, _∙_}
@@ -11,20 +11,25 @@ use lib.Dec.{eqb}
 use lib.ListN.{length, getD, take, replicate}
 use Rattle.laws.proofs.Parts.{from, past, from-drop, from-length}
 use Rattle.text.specs.Lines.{lineEnd, has, before, firstIs, field}
-use Rattle.text.specs.Words.{beginsWith}
+use Rattle.text.specs.Words.{sameBytes, beginsWith}
 use Rattle.text.specs.Number.{decimal}
 use Rattle.text.specs.Fields.{areNumbers, FilledFromLine}
 use Rattle.text.proofs.Split.{Cut, cut, hasnt-of}
 use Rattle.text.proofs.LineLaws.{no-bytes, some-bytes}
 use Rattle.text.proofs.FilledFromLine.{entry-is}
 use Rattle.script.specs.Numbers.{maxDigits, maxNumber}
-use Rattle.script.specs.Calls.{callOf}
+use Rattle.script.specs.Calls.{taskFields, callOf}
+use Rattle.script.specs.declared.task.TaskFields.the-variants as TaskFields
+use Rattle.script.proofs.TaskLaws.{task-bad, task-read}
 use Rattle.script.specs.declared.calls.CallLine.the-variants as CallLine
+use Rattle.tasks.specs.declared.task.Task.{Task}
+use Rattle.machine.specs.declared.held.Held.the-variants.{None, Offered}
 use Rattle.machine.specs.declared.call.Call.{Call}
-use Rattle.probe.specs.Words.{machineWord}
-use Rattle.probe.specs.Input.{isMachineLine, countOf, coresOf, isEntryLine, entryTask, entryJob, entryCore, firstLine, entryFrom, callNumber, onlyCall, lastLine}
+use Rattle.probe.specs.Words.{machineWord, noneWord, heldWord}
+use Rattle.probe.specs.Input.{isMachineLine, countOf, coresOf, isEntryLine, entryTask, entryJob, entryCore, isHeldLine, heldOf, firstLine, entryFrom, heldFrom, callNumber, onlyCall, lastLine}
 use Rattle.probe.specs.declared.input.FirstLine.the-variants as First
 use Rattle.probe.specs.declared.input.EntryLine.the-variants as Entry
+use Rattle.probe.specs.declared.input.HeldLine.the-variants as HeldLine
 use Rattle.probe.specs.declared.input.Asked.the-variants as Asked
 
 module _ (s : List ℕ) (k : ℕ) (e : k ≡ length (before lineEnd s)) where
@@ -40,6 +45,10 @@ module _ (s : List ℕ) (k : ℕ) (e : k ≡ length (before lineEnd s)) where
     pub entry-unended : Entry.Bad ≡ entryFrom s
     unfolding entryFrom firstIs
     entry-unended = rw unended
+
+    pub held-unended : HeldLine.Bad ≡ heldFrom s
+    unfolding heldFrom firstIs
+    held-unended = rw unended
 
     pub call-unended : Asked.Bad callNumber ≡ lastLine s
     unfolding lastLine
@@ -92,6 +101,30 @@ module _ (s : List ℕ) (k : ℕ) (e : k ≡ length (before lineEnd s)) where
           let is = number-at in
           rw (line .is, ← line .front, ← n .is, ← is 3 (omega arith), le-leb (getD a 3 0) 1 o, ap length (line .front) ∙ sym e)
           (rw (← is 0 (omega arith), ← is 1 (omega arith), ← is 2 (omega arith), ← is 4 (omega arith), ← is 5 (omega arith), ← is 6 (omega arith), ← is 7 (omega arith)))
+
+    pub none-read : sameBytes (take k s) noneWord ≡ true → HeldLine.Read None (k + 1) ≡ heldFrom s
+    unfolding heldFrom firstIs isHeldLine heldOf
+    none-read w = rw (line .is, ← line .front, w, ap length (line .front) ∙ sym e)
+
+    -- the line is not `NONE`
+    module _ (other : sameBytes (take k s) noneWord ≡ false) where
+      pub no-held-word : beginsWith heldWord (take k s) ≡ false → HeldLine.Bad ≡ heldFrom s
+      unfolding heldFrom firstIs isHeldLine
+      no-held-word w = rw (line .is, ← line .front, other, w)
+
+      module _ (w : beginsWith heldWord (take k s) ≡ true) where
+        pub no-held-task : taskFields (from (take k s) (length heldWord)) ≡ TaskFields.Bad → HeldLine.Bad ≡ heldFrom s
+        unfolding heldFrom firstIs isHeldLine
+        no-held-task b =
+            let n = task-bad _ b in
+            rw (line .is, ← line .front, other, w, rw (from-drop (take k s) (length heldWord)) at n)
+
+        pub held-read : (t : Task) → taskFields (from (take k s) (length heldWord)) ≡ TaskFields.Read t → HeldLine.Read (Offered t) (k + 1) ≡ heldFrom s
+        unfolding heldFrom firstIs isHeldLine heldOf entryTask
+        held-read t b =
+            let r = task-read _ t b in
+            let f = from-drop (take k s) (length heldWord) in
+            rw (line .is, ← line .front, other, w, ← f, r .numbers, r .task-is, ap length (line .front) ∙ sym e)
 
     pub no-call : callOf (take k s) ≡ CallLine.Bad → Asked.Bad callNumber ≡ lastLine s
     unfolding lastLine onlyCall

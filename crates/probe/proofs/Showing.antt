@@ -1,5 +1,5 @@
 -- The lines of a machine: how long they are, and what they are put together from. Others cite `entry-few`; `Showing`, the
--- state between two entries, with `show-none`, `show-more` and `show-all`; and `machine-put`.
+-- state between two entries, with `show-none`, `show-more` and `show-all`; `none-put` and `held-put`, of what is held; and `machine-put`.
 use Prim.Native.Nat.{ℕ, suc, _+_, _-_, _*_, _^_, _≤_, _<_}
 use native.Mathlib.Numerals.{add-one}
 use native.Mathlib.Omega.{arith}
@@ -8,6 +8,7 @@ use mathlib.Core.Bool.{Bool, true, false, cond}
 use mathlib.Core.List.{List, [], _∷_, _++_}
 use lib.ListN.{length, length-append}
 use Rattle.text.specs.Number.{decimalText}
+use Rattle.text.specs.Lines.{lineEnd}
 use Rattle.text.specs.Output.{Put, furtherNumbers, numbersLine}
 use Rattle.text.proofs.DigitLaws.{text-few}
 use Rattle.text.proofs.Putting.{put-then, Partly, partly-none, partly-more, partly-all}
@@ -17,8 +18,9 @@ use Rattle.job.specs.declared.job.Job.{Job}
 use Rattle.machine.specs.Machine.{taskAt, jobAt, coreAt}
 use Rattle.machine.specs.declared.machine.Machine.{Machine}
 use Rattle.script.specs.Output.{PutWithin}
-use Rattle.probe.specs.Words.{machineWord}
-use Rattle.probe.specs.Output.{entryLine, entryLines, machineLines, entryRoom, entriesRoom, machineRoom}
+use Rattle.machine.specs.declared.held.Held.the-variants.{None, Offered}
+use Rattle.probe.specs.Words.{machineWord, noneWord, heldWord}
+use Rattle.probe.specs.Output.{entryLine, entryLines, heldLine, machineLines, entryRoom, entriesRoom, heldRoom, machineRoom}
 
 -- a number of 32 bits has at most ten digits, and a flag one
 digits : (n : ℕ) → n < 2 ^ 32 → length (decimalText n) ≤ 10
@@ -75,15 +77,32 @@ module _ (a : List ℕ) (u : ℕ) (m : Machine) (b : List ℕ) (v i : ℕ) (p : 
       let e : entryLines m i (maxTasks - i) ≡ [] = rw z (no-entries m i) in
       record { put = partly-all a u (entryLines m 0 maxTasks) b v (rw e at (p .left)); few = omega (arith, p .few, p .within, ap length e) }
 
--- the whole machine: its first line and those of its entries
-module _ (a b c d : List ℕ) (u v w x : ℕ) (m : Machine) where
+pub none-put : (a b : List ℕ) (u v : ℕ) → Put a u (noneWord ++ lineEnd ∷ []) b v → PutWithin heldRoom a u (heldLine None) b v
+unfolding heldLine
+none-put a b u v p = record { put = p; few = omega arith }
+
+pub held-put :
+    (a b c : List ℕ) (u v w : ℕ) (t : Task) → t .period < 2 ^ 32 → t .budget < 2 ^ 32 → t .deadline < 2 ^ 32 → Put a u heldWord b v
+    → Put b v (numbersLine (t .period ∷ t .budget ∷ t .deadline ∷ [])) c w → PutWithin heldRoom a u (heldLine (Offered t)) c w
+unfolding heldLine numbersLine furtherNumbers
+held-put a b c u v w t x y z p q =
+    record {
+      put = put-then a u heldWord b v p _ c w q;
+      few = simp length-append (omega (arith, digits (t .period) x, digits (t .budget) y, digits (t .deadline) z));
+    }
+
+-- the whole machine: its first line, those of its entries, and that of what it holds
+module _ (a b c d e : List ℕ) (u v w x y : ℕ) (m : Machine) where
   pub machine-put :
       m .table .count < 2 ^ 64 → m .cores < 2 ^ 32 → Put a u machineWord b v → Put b v (numbersLine (m .table .count ∷ m .cores ∷ [])) c w
-      → PutWithin entriesRoom c w (entryLines m 0 maxTasks) d x → PutWithin machineRoom a u (machineLines m) d x
+      → PutWithin entriesRoom c w (entryLines m 0 maxTasks) d x → PutWithin heldRoom d x (heldLine (m .held)) e y
+      → PutWithin machineRoom a u (machineLines m) e y
   unfolding machineLines numbersLine furtherNumbers
-  machine-put h k p q l =
+  machine-put h k p q l r =
       let n = numbersLine (m .table .count ∷ m .cores ∷ []) in
+      let entries = entryLines m 0 maxTasks in
+      let first = put-then a u machineWord b v p _ d x (put-then b v n c w q entries d x (l .put)) in
       record {
-        put = put-then a u machineWord b v p _ d x (put-then b v n c w q _ d x (l .put));
-        few = simp length-append (omega (arith, text-few 19 (m .table .count) (omega arith), digits (m .cores) k, l .few));
+        put = put-then a u (machineWord ++ n ++ entries) d x first (heldLine (m .held)) e y (r .put);
+        few = simp length-append (omega (arith, text-few 19 (m .table .count) (omega arith), digits (m .cores) k, l .few, r .few));
       }

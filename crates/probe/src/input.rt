@@ -2,11 +2,14 @@
 use job::job::Job;
 use job::job::fresh_job;
 use machine::call::Call;
+use machine::held::Held;
 use machine::machine::Machine;
 use script::calls::CallLine;
 use script::calls::MAX_DIGITS;
 use script::calls::MAX_NUMBER;
 use script::calls::call_line;
+use script::task::TaskFields;
+use script::task::task_fields;
 use tasks::limits::MAX_TASKS;
 use tasks::table::Table;
 use tasks::task::Task;
@@ -15,11 +18,14 @@ use text::fields::fill_from_line;
 ghost use Prim.Native.Nat.{_<_};
 ghost use mathlib.Core.Path.{_≡_};
 ghost use Rattle.tasks.specs.Limits.{maxTasks};
-ghost use Rattle.probe.specs.Input.{firstLine, zeroEntries, entryFrom, withEntry, lastLine};
-ghost use Rattle.probe.specs.Printed.{printedAsked, printedFrom, printed};
+ghost use Rattle.probe.specs.Input.{firstLine, zeroEntries, entryFrom, withEntry, heldFrom, lastLine};
+ghost use Rattle.probe.specs.Printed.{printedAsked, printedHeld, printedFrom, printed};
 
-// The number of the call's line, which is the last: the line of the machine and one for each entry stand before it.
-const CALL_NUMBER: usize = 1 + MAX_TASKS + 1;
+// The number of the line of what the machine holds: the line of the machine and one for each entry stand before it.
+const HELD_NUMBER: usize = 1 + MAX_TASKS + 1;
+
+// The number of the call's line, which is the last.
+const CALL_NUMBER: usize = HELD_NUMBER + 1;
 
 // The line of the count and the cores.
 enum FirstLine {
@@ -39,6 +45,12 @@ enum EntryLine {
         core: u32,
         length: usize,
     },
+    Bad,
+}
+
+// The line of what the machine holds.
+enum HeldLine {
+    Read { held: Held, length: usize },
     Bad,
 }
 
@@ -90,6 +102,7 @@ fn zero_entries(count: u32, cores: u32) -> Machine
         cores,
         jobs: [fresh; MAX_TASKS],
         assigned: [0; MAX_TASKS],
+        held: Held::None,
     }
 }
 
@@ -138,6 +151,34 @@ fn with_entry(mut machine: Machine, i: usize, task: Task, job: Job, core: u32) -
     machine
 }
 
+// What the machine holds.
+fn held_line(text: &[u8]) -> HeldLine
+    ensures { λ r. ⌜ r ≡ heldFrom (now (text .entry)) ⌝ }
+{
+    let length = bytes::find(text, b'\n');
+    if text.len() <= length {
+        return HeldLine::Bad;
+    }
+    let line = &text[..length];
+    if bytes::same(line, b"NONE") {
+        return HeldLine::Read {
+            held: Held::None,
+            length: length + 1,
+        };
+    }
+    let word = b"HELD ";
+    if !bytes::begins_with(line, word) {
+        return HeldLine::Bad;
+    }
+    let TaskFields::Read(task) = task_fields(&line[word.len()..]) else {
+        return HeldLine::Bad;
+    };
+    HeldLine::Read {
+        held: Held::Offered(task),
+        length: length + 1,
+    }
+}
+
 // The call of the last line, which nothing follows.
 fn last_line(text: &[u8]) -> Asked
     ensures { λ r. ⌜ r ≡ lastLine (now (text .entry)) ⌝ }
@@ -155,7 +196,22 @@ fn last_line(text: &[u8]) -> Asked
     Asked::Read(call)
 }
 
-// Reads the lines after the first: the entries of the machine, and the call.
+// Reads the lines after the entries: what the machine holds, and the call.
+fn read_held(text: &[u8], machine: Machine) -> Input
+    ensures { λ r. ⌜ printedHeld machine (now (text .entry)) ≡ printedAsked (r .machine) (r .asked) ⌝ }
+{
+    let HeldLine::Read { held, length } = held_line(text) else {
+        return Input {
+            machine,
+            asked: Asked::Bad(HELD_NUMBER),
+        };
+    };
+    let asked = last_line(&text[length..]);
+    let machine = machine.holding(held);
+    Input { machine, asked }
+}
+
+// Reads the lines after the first: the entries of the machine, what it holds, and the call.
 fn read_entries(text: &[u8], mut machine: Machine) -> Input
     ensures { λ r. ⌜ printedFrom machine 0 maxTasks (now (text .entry)) ≡ printedAsked (r .machine) (r .asked) ⌝ }
 {
@@ -178,8 +234,7 @@ fn read_entries(text: &[u8], mut machine: Machine) -> Input
         at += length;
         i += 1;
     }
-    let asked = last_line(&text[at..]);
-    Input { machine, asked }
+    read_held(&text[at..], machine)
 }
 
 // Reads a text.

@@ -16,8 +16,8 @@ ghost use Rattle.text.specs.Output.{Holds};
 ghost use Rattle.script.specs.Output.{PutWithin};
 ghost use Rattle.probe.specs.Printed.{shown, printed, room};
 
-// More bytes than a good text has: at most 30 of its first line, 79 of each entry's and 38 of the call's, 2,596 in all. What is printed for a longer
-// text is what is printed for its first bytes (proofs/Cut.antt).
+// More bytes than a good text has: at most 30 of its first line, 79 of each entry's, 38 of what is held and 39 of the call's, 2,635 in all. What is printed
+// for a longer text is what is printed for its first bytes (proofs/Cut.antt).
 const INPUT_ROOM: usize = 4_096;
 
 // Room for what is printed, in contracts `room`.

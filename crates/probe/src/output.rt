@@ -1,5 +1,6 @@
 // The lines of a machine. What puts a line answers how many bytes the array then holds.
 use job::job::Job;
+use machine::held::Held;
 use machine::machine::Machine;
 use tasks::limits::MAX_TASKS;
 use tasks::task::Task;
@@ -7,14 +8,17 @@ use text::output::put;
 use text::output::put_numbers;
 ghost use Rattle.tasks.specs.Limits.{maxTasks};
 ghost use Rattle.script.specs.Output.{PutWithin};
-ghost use Rattle.probe.specs.Output.{entryLine, entryLines, machineLines, entryRoom, entriesRoom, machineRoom};
+ghost use Rattle.probe.specs.Output.{entryLine, entryLines, heldLine, machineLines, entryRoom, entriesRoom, heldRoom, machineRoom};
 
 // Room for the line of an entry, in contracts `entryRoom`: eight numbers of ten digits, and a byte after each.
 const ENTRY_ROOM: usize = 8 * (10 + 1);
 
+// Room for the line of what is held, in contracts `heldRoom`: the word HELD with its space, three numbers of ten digits, and a byte after each.
+const HELD_ROOM: usize = 5 + 3 * (10 + 1);
+
 // Room for the lines of a machine, in contracts `machineRoom`: the word MACHINE with its space, a count of at most 20 digits, cores of ten, a byte after
-// either, and the lines of the entries.
-pub const MACHINE_ROOM: usize = 8 + (20 + 1) + (10 + 1) + ENTRY_ROOM * MAX_TASKS;
+// either, the lines of the entries, and that of what is held.
+pub const MACHINE_ROOM: usize = 8 + (20 + 1) + (10 + 1) + ENTRY_ROOM * MAX_TASKS + HELD_ROOM;
 
 // The eight numbers of an entry.
 fn put_entry(output: &mut [u8], used: usize, task: Task, job: Job, core: u32) -> usize
@@ -50,6 +54,18 @@ fn put_entries(output: &mut [u8], used: usize, machine: Machine) -> usize
     at
 }
 
+// What a machine holds.
+fn put_held(output: &mut [u8], used: usize, held: Held) -> usize
+    ensures { λ r. ⌜ PutWithin heldRoom (now (output .entry)) used (heldLine held) (now (output .exit)) r ⌝ }
+{
+    let Held::Offered(task) = held else {
+        return put(output, used, b"NONE\n");
+    };
+    let at = put(output, used, b"HELD ");
+    let numbers = [task.period as u64, task.budget as u64, task.deadline as u64];
+    put_numbers(output, at, &numbers)
+}
+
 // All lines of a machine.
 pub fn put_machine(output: &mut [u8], used: usize, machine: Machine) -> usize
     ensures { λ r. ⌜ PutWithin machineRoom (now (output .entry)) used (machineLines machine) (now (output .exit)) r ⌝ }
@@ -57,5 +73,7 @@ pub fn put_machine(output: &mut [u8], used: usize, machine: Machine) -> usize
     let at = put(output, used, b"MACHINE ");
     let numbers = [machine.table.count as u64, machine.cores as u64];
     let at = put_numbers(output, at, &numbers);
-    put_entries(output, at, machine)
+    let at = put_entries(output, at, machine);
+    let held = machine.held;
+    put_held(output, at, held)
 }

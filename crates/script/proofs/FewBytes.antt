@@ -16,7 +16,7 @@ use Rattle.machine.specs.Calls.{step}
 use Rattle.tasks.specs.Flags.{mask}
 use Rattle.machine.specs.declared.machine.Machine.{Machine}
 use Rattle.machine.specs.declared.call.Call.{Call}
-use Rattle.machine.specs.declared.call.Call.the-variants.{Release, Finish, Slot, Join}
+use Rattle.machine.specs.declared.call.Call.the-variants.{Release, Finish, Slot, Offer, Commit}
 use Rattle.machine.specs.declared.answer.Report.{Report}
 use Rattle.tasks.proofs.MaskLaws.{mask-below}
 use Rattle.machine.proofs.SmallAnswer.{SmallReport, small-answer}
@@ -70,7 +70,8 @@ unfolding acceptedLine
 accepted-few (Release i e) r small = omega arith
 accepted-few (Finish i) r small = omega arith
 accepted-few (Slot k) r small = report-few r small
-accepted-few (Join t) r small = omega arith
+accepted-few (Offer t) r small = omega arith
+accepted-few Commit r small = omega arith
 
 pub few-bytes : (m : Machine) (call : Call) → length (answerLine call (step m call)) ≤ answerRoom
 unfolding answerLine outcomeLine

@@ -1,5 +1,5 @@
+pub mod TaskLaws
 pub mod CallLaws
-pub mod JoinLaws
 pub mod OutputLaws
 pub mod ReportNumbers
 pub mod FewBytes

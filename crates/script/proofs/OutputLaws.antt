@@ -14,7 +14,7 @@ use Rattle.text.proofs.DigitLaws.{text-few}
 use Rattle.text.proofs.Putting.{put-then, put-all}
 use Rattle.machine.specs.declared.call.Call.{Call}
 use Rattle.machine.proofs.call.Call.{the-type}
-use Rattle.machine.specs.declared.call.Call.the-variants.{Release, Finish, Slot, Join}
+use Rattle.machine.specs.declared.call.Call.the-variants.{Release, Finish, Slot, Offer, Commit}
 use Rattle.machine.specs.declared.answer.Report.{Report}
 use Rattle.script.specs.Words.{doneWord, badLineWord}
 use Rattle.script.specs.Output.{PutWithin, badLine, acceptedLine, refusalRoom}
@@ -43,10 +43,13 @@ unfolding badLine numbersLine furtherNumbers
 bad-put a b c n u v w h p q =
     record { put = put-then a u badLineWord b v p _ c w q; few = simp length-append (omega (arith, text-few 19 n (omega arith))) }
 
--- the line of an accepted call that is no slot: the calls' tags are 0 to 3, and a slot's is 2
-pub done-line : (call : Call) (r : Report) → OneOf (0 ∷ 1 ∷ 3 ∷ []) (tagOf the-type call) → acceptedLine call r ≡ doneWord ++ lineEnd ∷ []
+-- the line of an accepted call that is no slot: the calls' tags are 0 to 4, and a slot's is 2
+pub done-line : (call : Call) (r : Report) → OneOf (0 ∷ 1 ∷ 3 ∷ 4 ∷ []) (tagOf the-type call) → acceptedLine call r ≡ doneWord ++ lineEnd ∷ []
 unfolding acceptedLine
 done-line (Release i e) r h = refl
 done-line (Finish i) r h = refl
-done-line (Slot k) r h = absurd (⊎-elim (λ e. omega (arith, e)) (λ h. ⊎-elim (λ e. omega (arith, e)) (λ e. omega (arith, e)) h) h)
-done-line (Join t) r h = refl
+done-line (Slot k) r h =
+    absurd
+    (⊎-elim (λ e. omega (arith, e)) (λ h. ⊎-elim (λ e. omega (arith, e)) (λ h. ⊎-elim (λ e. omega (arith, e)) (λ e. omega (arith, e)) h) h) h)
+done-line (Offer t) r h = refl
+done-line Commit r h = refl

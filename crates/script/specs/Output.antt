@@ -9,7 +9,7 @@ use Rattle.tasks.specs.Limits.{maxTasks, maxCores}
 use Rattle.tasks.specs.declared.outcome.Outcome.{Outcome}
 use Rattle.tasks.specs.declared.outcome.Outcome.the-variants.{Done, Refused}
 use Rattle.machine.specs.declared.call.Call.{Call}
-use Rattle.machine.specs.declared.call.Call.the-variants.{Release, Finish, Slot, Join}
+use Rattle.machine.specs.declared.call.Call.the-variants.{Release, Finish, Slot, Offer, Commit}
 use Rattle.machine.specs.declared.answer.Answer.{Answer}
 use Rattle.machine.specs.declared.answer.Report.{Report}
 use Rattle.tasks.specs.Flags.{mask}
@@ -29,12 +29,13 @@ unfoldable pub reportLine : Report → List ℕ
 reportLine r =
     numbersLine (mask (r .ran) ∷ mask (r .finished) ∷ mask (r .late) ∷ r .runners ∷ runnerCores (r .ran) (r .assigned) maxTasks)
 
--- "`DONE` for an accepted release, finish or join", and the report "for an accepted slot"
+-- "`DONE` for an accepted release, finish, offer or commit", and the report "for an accepted slot"
 unfoldable pub acceptedLine : Call → Report → List ℕ
 acceptedLine (Release i e) r = doneWord ++ lineEnd ∷ []
 acceptedLine (Finish i) r = doneWord ++ lineEnd ∷ []
 acceptedLine (Slot k) r = reportLine r
-acceptedLine (Join t) r = doneWord ++ lineEnd ∷ []
+acceptedLine (Offer t) r = doneWord ++ lineEnd ∷ []
+acceptedLine Commit r = doneWord ++ lineEnd ∷ []
 
 -- the line of a call that had an outcome and a report: "`REFUSED n` for a refused call"
 unfoldable pub outcomeLine : Outcome → Call → Report → List ℕ

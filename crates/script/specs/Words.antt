@@ -10,9 +10,13 @@ releaseWord = 82 ∷ 69 ∷ 76 ∷ 69 ∷ 65 ∷ 83 ∷ 69 ∷ 32 ∷ []
 abbrev pub finishWord : List ℕ
 finishWord = 70 ∷ 73 ∷ 78 ∷ 73 ∷ 83 ∷ 72 ∷ 32 ∷ []
 
--- "JOIN" with its space, before T C D
-abbrev pub joinWord : List ℕ
-joinWord = 74 ∷ 79 ∷ 73 ∷ 78 ∷ 32 ∷ []
+-- "OFFER" with its space, before T C D
+abbrev pub offerWord : List ℕ
+offerWord = 79 ∷ 70 ∷ 70 ∷ 69 ∷ 82 ∷ 32 ∷ []
+
+-- "COMMIT", a line of its own
+abbrev pub commitWord : List ℕ
+commitWord = 67 ∷ 79 ∷ 77 ∷ 77 ∷ 73 ∷ 84 ∷ []
 
 -- "SLOT" with its space, before k
 abbrev pub slotWord : List ℕ

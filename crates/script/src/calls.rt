@@ -1,13 +1,13 @@
 // The call of a line, which stands here without its byte 10.
+use crate::task::TaskFields;
+use crate::task::task_fields;
 use machine::call::Call;
-use tasks::task::Task;
 use text::bytes;
 use text::fields;
-use text::fields::Numbers;
 use text::number;
 use text::number::Number;
 ghost use mathlib.Core.Path.{_≡_};
-ghost use Rattle.script.specs.Calls.{releaseOf, joinOf, callOf};
+ghost use Rattle.script.specs.Calls.{releaseOf, taskFields, offerOf, callOf};
 
 // The longest number of a script, in digits.
 pub const MAX_DIGITS: usize = 10;
@@ -35,27 +35,15 @@ fn release_fields(fields: &[u8]) -> CallLine
     })
 }
 
-// The join of the fields of a line.
-fn join_fields(fields: &[u8]) -> CallLine
-    ensures { λ r. ⌜ r ≡ joinOf (now (fields .entry)) ⌝ }
+// The offer of the fields of a line.
+fn offer_fields(fields: &[u8]) -> CallLine
+    ensures { λ r. ⌜ r ≡ offerOf (taskFields (now (fields .entry))) ⌝ }
 {
-    let Numbers::Three {
-        first: period,
-        second: budget,
-        third: deadline,
-        length,
-    } = fields::three_numbers(fields, MAX_DIGITS, MAX_NUMBER)
-    else {
+    let read = task_fields(fields);
+    let TaskFields::Read(task) = read else {
         return CallLine::Bad;
     };
-    if length < fields.len() {
-        return CallLine::Bad;
-    }
-    CallLine::Read(Call::Join(Task {
-        period,
-        budget,
-        deadline,
-    }))
+    CallLine::Read(Call::Offer(task))
 }
 
 // The call of a line.
@@ -72,9 +60,12 @@ pub fn call_line(line: &[u8]) -> CallLine
     if bytes::begins_with(line, release) {
         return release_fields(&line[release.len()..]);
     }
-    let join = b"JOIN ";
-    if bytes::begins_with(line, join) {
-        return join_fields(&line[join.len()..]);
+    let offer = b"OFFER ";
+    if bytes::begins_with(line, offer) {
+        return offer_fields(&line[offer.len()..]);
+    }
+    if bytes::same(line, b"COMMIT") {
+        return CallLine::Read(Call::Commit);
     }
     CallLine::Bad
 }

@@ -45,11 +45,11 @@ releasedTooSoon = 9
 abbrev pub jobNotOpen : ℕ
 jobNotOpen = 11
 
--- "12. A join comes to a table of 32 tasks."
+-- "12. A join comes to a table of 32 tasks."; by change 10 an offer
 abbrev pub tableFull : ℕ
 tableFull = 12
 
--- "13. The table with the joining task is not admitted."
+-- "13. The table with the joining task is not admitted."; by change 10 the offered one
 abbrev pub notAdmitted : ℕ
 notAdmitted = 13
 
@@ -64,3 +64,7 @@ needOutOfRange = 15
 -- change 9: "A least above its most: number 16"
 abbrev pub leastAboveMost : ℕ
 leastAboveMost = 16
+
+-- change 10: "Commit with no held task: number 17."
+abbrev pub noHeldTask : ℕ
+noHeldTask = 17

@@ -31,3 +31,5 @@ pub const SLOT_CORES_OUT_OF_RANGE: u32 = 14;
 pub const NEED_OUT_OF_RANGE: u32 = 15;
 
 pub const LEAST_ABOVE_MOST: u32 = 16;
+
+pub const NO_HELD_TASK: u32 = 17;

@@ -1,4 +1,4 @@
--- `read_entries` meets its contract. The invariant: the entries from i on are still to be read, and then the call.
+-- `read_entries` meets its contract. The invariant: the entries from i on are still to be read, and then the lines after them.
 use Prim.Native.Nat.{_+_, _-_, _≤_}
 use native.Mathlib.Omega.{arith}
 use mathlib.Core.Path.{_≡_, sym, _∙_}
@@ -27,8 +27,8 @@ sub-entry-line c = c .before .loop .inv .within
 part-entry-line-start : tie.Need-part-entry-line-start Inv-loop μ-loop
 part-entry-line-start c = c .before .loop .inv .within
 
-add-t16 : tie.Need-add-t16 Inv-loop μ-loop
-add-t16 c = omega (arith, c .before .before .before .before .before .loop .inv .few)
+add-t15 : tie.Need-add-t15 Inv-loop μ-loop
+add-t15 c = omega (arith, c .before .before .before .before .before .loop .inv .few)
 
 returns : tie.Need-returns Inv-loop μ-loop
 returns c =
@@ -71,16 +71,16 @@ loop-again c =
     let t = at-loop k in
     rw (c .with-entry .ensures) (fill-more _ _ _ _ _ (t .loop .inv) (in-loop k .loop-test .taken) _ _ _ _ (entry-is k))
 
-sub-last-line : tie.Need-sub-last-line Inv-loop μ-loop
-sub-last-line c = c .before .loop .inv .within
+sub-read-held : tie.Need-sub-read-held Inv-loop μ-loop
+sub-read-held c = c .before .loop .inv .within
 
-part-last-line-start : tie.Need-part-last-line-start Inv-loop μ-loop
-part-last-line-start c = c .before .loop .inv .within
+part-read-held-start : tie.Need-part-read-held-start Inv-loop μ-loop
+part-read-held-start c = c .before .loop .inv .within
 
 returns-2 : tie.Need-returns-2 Inv-loop μ-loop
 returns-2 c =
     let t = c .before .before in
-    filled _ _ _ _ _ (t .before .loop .inv) (t .loop-test .left) _ (c .last-line .ensures)
+    filled _ _ _ _ _ (t .before .loop .inv) (t .loop-test .left) _ (c .read-held .ensures)
 
 pub read-entries-spec : {M : Type 1} → statement M
 read-entries-spec =
@@ -95,15 +95,15 @@ read-entries-spec =
     (λ c κs. search needs)
     (λ c. search needs)
     (λ c. search needs)
-    add-t16
+    add-t15
     returns
     with-entry-requires
     add-at
     add-i
     loop-less
     loop-again
-    sub-last-line
-    part-last-line-start
+    sub-read-held
+    part-read-held-start
     (λ c. search needs)
     (λ c κs. search needs)
     returns-2)

@@ -6,14 +6,15 @@ use mathlib.Core.List.{List}
 use borrow.Author.Needs.{needs}
 use lib.ListN.{length, drop}
 use Rattle.laws.proofs.Parts.{from-drop}
-use Rattle.text.specs.Words.{beginsWith}
+use Rattle.text.specs.Words.{sameBytes, beginsWith}
 use Rattle.text.specs.Number.{numberAfter}
 use Rattle.text.specs.declared.number.Number.the-variants.{Broken}
 use Rattle.text.proofs.WordLaws.{not-longer}
-use Rattle.script.specs.declared.calls.CallLine.the-variants.{Bad}
-use Rattle.script.specs.Words.{releaseWord, finishWord, joinWord, slotWord}
+use Rattle.machine.specs.declared.call.Call.the-variants.{Commit}
+use Rattle.script.specs.declared.calls.CallLine.the-variants.{Read, Bad}
+use Rattle.script.specs.Words.{releaseWord, finishWord, slotWord, offerWord, commitWord}
 use Rattle.script.specs.Numbers.{maxDigits, maxNumber}
-use Rattle.script.specs.Calls.{releaseOf, joinOf, callWith, callOf}
+use Rattle.script.specs.Calls.{releaseOf, taskFields, offerOf, callWith, callOf}
 use Rattle.script.proofs.calls.call_line.Statement.{statement}
 use Rattle.script.proofs.calls.call_line.Tie as tie
 
@@ -30,15 +31,16 @@ no-slot c = sym (c .before .before .number-after .ensures) ∙ c .enum-told .giv
 no-finish : (c : tie.After-enum-told2) → numberAfter maxDigits maxNumber finishWord (line (past-slot c)) ≡ Broken
 no-finish c = sym (c .before .before .number-after2 .ensures) ∙ c .enum-told2 .given .1
 
--- it is neither: a release, a join, or no call
+-- it is neither: a release, an offer, a commit, or no call
 others :
     (c : tie.After-enum-told2)
     → let l = line (past-slot c) in
-    callOf l ≡ cond (beginsWith releaseWord l) (releaseOf (drop (length releaseWord) l)) (cond (beginsWith joinWord l) (joinOf (drop (length joinWord) l)) Bad)
+    callOf l ≡ cond (beginsWith releaseWord l) (releaseOf (drop (length releaseWord) l))
+    (cond (beginsWith offerWord l) (offerOf (taskFields (drop (length offerWord) l))) (cond (sameBytes l commitWord) (Read Commit) Bad))
 unfolding callOf callWith
 others c = rw (no-slot (past-slot c), no-finish c)
 
--- the line where the word of a release is tried, and where that of a join is
+-- the line where the word of a release is tried, and where that of an offer is
 abbrev past-finish : tie.After-begins-with → tie.After-enum-told2
 past-finish c = c .before .before .before
 
@@ -48,8 +50,8 @@ try-release c = line (past-slot (past-finish c))
 abbrev past-release : tie.After-begins-with2 → tie.Else1
 past-release c = c .before .before .before
 
-abbrev try-join : tie.After-begins-with2 → List ℕ
-try-join c = try-release (past-release c .before)
+abbrev try-offer : tie.After-begins-with2 → List ℕ
+try-offer c = try-release (past-release c .before)
 
 begins-release : (c : tie.Then1) → beginsWith releaseWord (try-release (c .before)) ≡ true
 begins-release c = sym (c .before .begins-with .ensures) ∙ c .if1 .taken
@@ -57,14 +59,14 @@ begins-release c = sym (c .before .begins-with .ensures) ∙ c .if1 .taken
 no-release : (c : tie.Else1) → beginsWith releaseWord (try-release (c .before)) ≡ false
 no-release c = sym (c .before .begins-with .ensures) ∙ c .if1 .left
 
-begins-join : (c : tie.Then2) → beginsWith joinWord (try-join (c .before)) ≡ true
-begins-join c = sym (c .before .begins-with2 .ensures) ∙ c .if2 .taken
+begins-offer : (c : tie.Then2) → beginsWith offerWord (try-offer (c .before)) ≡ true
+begins-offer c = sym (c .before .begins-with2 .ensures) ∙ c .if2 .taken
 
 release-fits : (c : tie.Then1) → length releaseWord ≤ length (try-release (c .before))
 release-fits c = not-longer releaseWord _ (begins-release c)
 
-join-fits : (c : tie.Then2) → length joinWord ≤ length (try-join (c .before))
-join-fits c = not-longer joinWord _ (begins-join c)
+offer-fits : (c : tie.Then2) → length offerWord ≤ length (try-offer (c .before))
+offer-fits c = not-longer offerWord _ (begins-offer c)
 
 returns : tie.Need-returns
 unfolding callOf callWith
@@ -87,14 +89,25 @@ returns-4 : tie.Need-returns-4
 returns-4 c =
     let t = c .before .before in
     let e = past-release (t .before) in
-    c .join-fields .ensures
-    ∙ ap joinOf (from-drop (try-join (t .before)) (length joinWord))
-    ∙ sym (others (past-finish (e .before)) ∙ rw (no-release e, begins-join t))
+    c .offer-fields .ensures
+    ∙ ap (λ (f : List ℕ). offerOf (taskFields f)) (from-drop (try-offer (t .before)) (length offerWord))
+    ∙ sym (others (past-finish (e .before)) ∙ rw (no-release e, begins-offer t))
+
+-- it is no offer either
+no-offer : (c : tie.Else2) → beginsWith offerWord (try-offer (c .before)) ≡ false
+no-offer c = sym (c .before .begins-with2 .ensures) ∙ c .if2 .left
 
 returns-5 : tie.Need-returns-5
 returns-5 c =
-    let e = past-release (c .before) in
-    sym (others (past-finish (e .before)) ∙ rw (no-release e, sym (c .before .begins-with2 .ensures) ∙ c .if2 .left))
+    let d = c .before .before .before in
+    let e = past-release (d .before) in
+    sym (others (past-finish (e .before)) ∙ rw (no-release e, no-offer d, sym (c .before .same .ensures) ∙ c .if3 .taken))
+
+returns-6 : tie.Need-returns-6
+returns-6 c =
+    let d = c .before .before .before in
+    let e = past-release (d .before) in
+    sym (others (past-finish (e .before)) ∙ rw (no-release e, no-offer d, sym (c .before .same .ensures) ∙ c .if3 .left))
 
 pub call-line-spec : {M : Type 1} → statement M
 call-line-spec =
@@ -117,9 +130,12 @@ call-line-spec =
     (λ c κs. search needs)
     returns-3
     (λ c κs. search needs)
-    join-fits
-    join-fits
+    offer-fits
+    offer-fits
     (λ c. search needs)
     (λ c κs. search needs)
     returns-4
-    returns-5)
+    (λ c. search needs)
+    (λ c κs. search needs)
+    returns-5
+    returns-6)

@@ -18,7 +18,11 @@ returns-3 c = rw (c .before .before .call3 .given .1) (c .slot .ensures)
 
 returns-4 : tie.Need-returns-4
 unfolding step
-returns-4 c = rw (c .before .before .call4 .given .1) (c .join .ensures)
+returns-4 c = rw (c .before .before .call4 .given .1) (c .offer .ensures)
+
+returns-5 : tie.Need-returns-5
+unfolding step
+returns-5 c = rw (c .before .enum-told .given .1) (c .commit .ensures)
 
 pub step-spec : {M : Type 1} → statement M
 step-spec =
@@ -32,7 +36,10 @@ step-spec =
     (λ c κs. search needs)
     (λ c. search needs)
     (λ c κs. search needs)
+    (λ c. search needs)
+    (λ c κs. search needs)
     returns
     returns-2
     returns-3
-    returns-4)
+    returns-4
+    returns-5)
