@@ -1,6 +1,7 @@
 //! Measures the proved library against plain Rust and plain C, side by side. With a number of
 //! tasks it only makes the calls, once each, so that another program can count their instructions.
 
+mod offers;
 mod plain;
 mod slots;
 mod texts;
@@ -14,4 +15,6 @@ fn main() {
     verdicts::print();
     println!();
     slots::print();
+    println!();
+    offers::print();
 }

@@ -3,7 +3,7 @@
 -- log tells: `always-told`; so a commit is the join of the log's last accepted offer since the last accepted commit, or 17: `commit-by-log`.
 use Prim.Native.Nat.{ℕ}
 use mathlib.Core.Path.{_≡_, refl, sym, ap, _∙_}
-use mathlib.Core.Bool.{Bool, true, false, cond, not, _&&_, _||_}
+use mathlib.Core.Bool.{Bool, true, false, cond, not, _||_}
 use mathlib.Core.List.{List, [], _∷_}
 use lib.Dec.{leb}
 use borrow.Author.Tests.{lt-leb}
@@ -23,20 +23,19 @@ use Rattle.machine.specs.Machine.{holding}
 use Rattle.machine.specs.Sound.{sound}
 use Rattle.machine.specs.Offer.{offerVerdict, offerChecked}
 use Rattle.machine.specs.Calls.{done, refuse, startAfter, start, offerAfter, offer, withJoined, commitHeld, commit, step}
-use Rattle.machine.specs.Play.{Entry, play, machineAfter}
+use Rattle.machine.specs.Play.{play, machineAfter}
 use Rattle.machine.specs.InTime.{Point, pointBy, pointAfter}
 use Rattle.machine.specs.declared.held.Held.{Held}
 use Rattle.machine.specs.declared.held.Held.the-variants.{None, Offered}
 use Rattle.machine.specs.declared.machine.Machine.{Machine}
 use Rattle.machine.specs.declared.call.Call.{Call}
 use Rattle.machine.specs.declared.call.Call.the-variants.{Release, Finish, Slot, Offer, Commit}
-use Rattle.machine.specs.declared.answer.Answer.{Answer}
 use Rattle.machine.proofs.OfferLaws.{OfferFits}
 use Rattle.machine.proofs.SoundLaws.{held-fits}
 use Rattle.machine.proofs.CallKinds.{pointOf}
 use Rattle.machine.proofs.InTimeHolds.{point-after}
-use Rattle.machine.proofs.SoundKept.{call-keeps, start-sound, start-outcome, always-sound}
-use Rattle.conformance.specs.FormerJoin.{joinAfter, join, holdingNone, comesBetween, allBetween, CommitIsJoin}
+use Rattle.machine.proofs.SoundKept.{call-keeps, start-outcome, always-sound}
+use Rattle.conformance.specs.FormerJoin.{joinAfter, join, holdingNone, comesBetween, allBetween, CommitIsJoin, CommitsAsJoins, OffersAsJoins}
 use Rattle.conformance.proofs.HeldApart.{sound-none}
 
 -- a machine that holds a task
@@ -98,11 +97,11 @@ module _ (m : Machine) (t : Task) where
   unfolding step pointOf pointBy isDone
   offer-held e = ap (λ (p : Point). p .offered) (point-after m (Offer t)) ∙ rw e
 
-  pub commit-as-join :
+  after-offer :
       offer m t .outcome ≡ Done → (calls : List Call) → allBetween (play (offer m t .machine) calls) ≡ true
       → CommitIsJoin (machineAfter (offer m t .machine) calls) t
   unfolding step
-  commit-as-join e calls = after-between calls (offer m t .machine) t (call-keeps m (offer-sound e) (Offer t) .is-sound) (offer-held e)
+  after-offer e calls = after-between calls (offer m t .machine) t (call-keeps m (offer-sound e) (Offer t) .is-sound) (offer-held e)
 
   offer-outcome : (checks : Outcome) → offerAfter checks m t .outcome ≡ checks
   unfolding offerAfter done
@@ -115,9 +114,9 @@ module _ (m : Machine) (t : Task) where
   last-outcome m' Done false = refl
   last-outcome m' (Refused number place) admits = refl
 
-  pub offer-as-join : sound m ≡ true → offer m t .outcome ≡ join (holdingNone m) t .outcome
+  same-outcome : sound m ≡ true → offer m t .outcome ≡ join (holdingNone m) t .outcome
   unfolding offer join offerChecked offerVerdict admissionValuesOf firstRefusal holdingNone holding refuse
-  offer-as-join ok =
+  same-outcome ok =
       let verdict = admission (withTask (m .table) t) (m .cores) in
       rw (ok, sound-none m ok)
       (offer-outcome (offerChecked (m .table) (m .cores) t)
@@ -127,6 +126,14 @@ module _ (m : Machine) (t : Task) where
       (λ full. rw (fits, full))
       (λ room. rw (fits, room) (last-outcome (holdingNone m) (verdict .outcome) (verdict .admits))))
       (λ no. rw no))
+
+pub commit-as-join : CommitsAsJoins
+unfolding CommitsAsJoins
+commit-as-join = after-offer
+
+pub offer-as-join : OffersAsJoins
+unfolding OffersAsJoins
+offer-as-join m ok t = same-outcome m t ok
 
 told : (calls : List Call) (m : Machine) → pointOf (machineAfter m calls) ≡ pointAfter (pointOf m) (play m calls)
 unfolding play machineAfter pointAfter

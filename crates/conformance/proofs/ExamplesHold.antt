@@ -35,7 +35,7 @@ unfolding computingRuns saysRan saysFinished upToSlot ranWhole acceptedFinish is
 need-examples-hold = refl
 
 pub offer-examples-hold : allTrue offerExamples ≡ true
-unfolding computingRuns saysRan saysFinished upToSlot ranWhole acceptedFinish isFinishOf anyFinish closedBySlot many allKinds whole taskNumbers heldNumbers reached heldIs withHeld two loaded menu amid leftOver offerExamples
+unfolding computingRuns saysRan saysFinished upToSlot ranWhole acceptedFinish isFinishOf anyFinish closedBySlot many withoutTasks madeByHand allKinds whole taskNumbers heldNumbers reached heldIs withHeld two loaded menu amid leftOver offerExamples
 offer-examples-hold = refl
 
 -- the log of case k, in whose last slot both tasks are late; the claim fails of task 2

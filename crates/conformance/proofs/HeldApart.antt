@@ -19,7 +19,7 @@ use Rattle.machine.specs.declared.call.Call.{Call}
 use Rattle.machine.specs.declared.call.Call.the-variants.{Release, Finish, Slot, Offer, Commit}
 use Rattle.machine.specs.declared.answer.Answer.{Answer}
 use Rattle.machine.proofs.SoundLaws.{make-sound, sound-checks, sound-job, sound-cores}
-use Rattle.conformance.specs.FormerJoin.{holdingNone, answerHolding, comesBetween}
+use Rattle.conformance.specs.FormerJoin.{holdingNone, answerHolding, comesBetween, HeldPlaysNoPart}
 use Rattle.conformance.proofs.SamePick.{other, same-order, same-runners}
 
 module _ (m : Machine) (ok : sound m ≡ true) where
@@ -61,10 +61,14 @@ module _ (m : Machine) (ok : sound m ≡ true) where
       (of-either keeping (not (slotCoresInRange m k)) (refused _)
       (rw (same-runners m (m .assigned) None k, same-order m (m .assigned) None (runnerCount m k))))
 
-  pub held-plays-no-part : (call : Call) → comesBetween call ≡ true → answerHolding (m .held) (step (holdingNone m) call) ≡ step m call
+  by-call : (call : Call) → comesBetween call ≡ true → keeping (step (holdingNone m) call) ≡ step m call
   unfolding step comesBetween
-  held-plays-no-part (Release number need) b = release-alike number need
-  held-plays-no-part (Finish number) b = finish-alike number
-  held-plays-no-part (Slot k) b = slot-alike k
-  held-plays-no-part (Offer t) b = not-both false b refl
-  held-plays-no-part Commit b = not-both false b refl
+  by-call (Release number need) b = release-alike number need
+  by-call (Finish number) b = finish-alike number
+  by-call (Slot k) b = slot-alike k
+  by-call (Offer t) b = not-both false b refl
+  by-call Commit b = not-both false b refl
+
+pub held-plays-no-part : HeldPlaysNoPart
+unfolding HeldPlaysNoPart
+held-plays-no-part = by-call

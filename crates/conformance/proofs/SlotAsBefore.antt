@@ -3,10 +3,9 @@
 -- (`cores-play-no-part`), and over every list of calls from a start the answers without their cores are those of before (`list-as-before`).
 use Prim.Native.Nat.{ℕ, _-_}
 use mathlib.Core.Path.{_≡_, refl, sym, ap, _∙_}
-use mathlib.Core.Bool.{Bool, true, cond, not}
+use mathlib.Core.Bool.{true, cond, not}
 use mathlib.Core.List.{List, [], _∷_}
 use lib.Dec.{ltb}
-use lib.ListN.{set, replicate}
 use Rattle.laws.proofs.CaseSplits.{of-either}
 use Rattle.laws.proofs.Replaced.{set-replicate}
 use Rattle.tasks.specs.declared.task.Task.{Task}

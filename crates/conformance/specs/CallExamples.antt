@@ -1,5 +1,5 @@
--- Examples beside the cases of document 01, as entries of a list of computed tests: tasks that are added, a task that turns urgent, refused calls, slots with
--- other cores than the machine's (document 02, change 1), jobs of equal deadlines (change 2), and machines made by hand (change 3). `allTrue` of crate laws
+-- Examples beside the cases of document 01, as entries of a list of computed tests: tasks that are added (document 02, changes 6 and 10), a task that turns
+-- urgent, refused calls, slots with other cores than the machine's (change 1), jobs of equal deadlines (change 2), and machines made by hand (change 3). `allTrue` of crate laws
 -- is the test; the theorem stands in proofs/ExamplesHold.antt.
 use Prim.Native.Nat.{ℕ}
 use mathlib.Core.Bool.{Bool, true, false, not}
@@ -54,7 +54,7 @@ madeByHand isOpen left budget gap =
       held = None;
     }
 
--- calls of every kind, each also with a number, need, cores or a task that it refuses
+-- calls of every kind, each but the commit also with a number, need, cores or a task that it refuses
 unfoldable pub allKinds : List Call
 allKinds =
     Release 1 3 ∷ Release 2 3 ∷ Release 1 0 ∷ Finish 1 ∷ Finish 2 ∷ Slot 1 ∷ Slot 0 ∷ Offer (task 9 1 9) ∷ Offer (task 5 6 5) ∷ Commit ∷ []

@@ -1,6 +1,5 @@
 -- Document 01's join, which became offer and commit by document 02's change 10, said on the present machine; and the words in which the theorems of
--- proofs/CommitAsJoin.antt and proofs/HeldApart.antt speak of what comes between the two. Nothing else uses them.
-use Prim.Native.Nat.{ℕ}
+-- proofs/CommitAsJoin.antt and proofs/HeldApart.antt speak of what comes between the two, with what they say. Nothing else uses them.
 use mathlib.Core.Path.{_≡_}
 use mathlib.Core.Bool.{Bool, true, false, cond, not, _&&_, _||_}
 use mathlib.Core.List.{List, [], _∷_}
@@ -17,8 +16,8 @@ use Rattle.judge.specs.SlackJudge.{admission}
 use Rattle.machine.specs.Machine.{holding}
 use Rattle.machine.specs.Slot.{noReport}
 use Rattle.machine.specs.Sound.{sound}
-use Rattle.machine.specs.Calls.{done, refuse, withJoined, commit}
-use Rattle.machine.specs.Play.{Entry}
+use Rattle.machine.specs.Calls.{done, refuse, offer, withJoined, commit, step}
+use Rattle.machine.specs.Play.{Entry, play, machineAfter}
 use Rattle.machine.specs.declared.held.Held.{Held}
 use Rattle.machine.specs.declared.held.Held.the-variants.{None}
 use Rattle.machine.specs.declared.machine.Machine.{Machine}
@@ -67,3 +66,18 @@ pub record CommitIsJoin (m : Machine) (t : Task) : Type 0 where
   pub same : commit m ≡ join (holdingNone m) t
   pub accepted : commit m .outcome ≡ Done
   pub none-held : commit m .machine .held ≡ None
+
+-- this after every accepted offer and any releases, finishes, slots and refused calls
+unfoldable pub CommitsAsJoins : Type 0
+CommitsAsJoins =
+    (m : Machine) (t : Task) → offer m t .outcome ≡ Done → (calls : List Call) → allBetween (play (offer m t .machine) calls) ≡ true
+    → CommitIsJoin (machineAfter (offer m t .machine) calls) t
+
+-- "Offer runs join's checks": on every sound machine
+unfoldable pub OffersAsJoins : Type 0
+OffersAsJoins = (m : Machine) → sound m ≡ true → (t : Task) → offer m t .outcome ≡ join (holdingNone m) t .outcome
+
+-- on every sound machine the calls that may come between answer as if none were held, and keep what is
+unfoldable pub HeldPlaysNoPart : Type 0
+HeldPlaysNoPart =
+    (m : Machine) → sound m ≡ true → (call : Call) → comesBetween call ≡ true → answerHolding (m .held) (step (holdingNone m) call) ≡ step m call

@@ -19,7 +19,7 @@ use Rattle.machine.specs.declared.answer.Answer.{Answer}
 unfoldable pub wholeJob : Task → Job
 wholeJob t = record { «open» = true; left = t .deadline; budget = t .budget; gap = t .period }
 
--- before change 5: document 01's "Release: 8, 9, 10", after 0, where change 3 takes "number 10 out of the list"
+-- before change 5, on the present machine: document 01's "Release: 8, 9, 10", after 0, where change 3 takes "number 10 out of the list"
 unfoldable pub wholeRelease : Machine → (number : ℕ) → Answer
 wholeRelease m number =
     let i = number - 1 in

@@ -1,8 +1,8 @@
 -- Examples of offers and commits (document 02, change 10), as entries of a list of computed tests. `allTrue` of crate laws is the test; the theorem stands in
 -- proofs/ExamplesHold.antt.
 use Prim.Native.Nat.{ℕ}
-use mathlib.Core.Bool.{Bool, true, not, _&&_}
-use mathlib.Core.List.{List, [], _∷_, _++_}
+use mathlib.Core.Bool.{Bool, true, not}
+use mathlib.Core.List.{List, [], _∷_}
 use lib.Dec.{eqb}
 use lib.ListN.{set, take, drop, replicate}
 use Rattle.laws.specs.Examples.{sameNumbers}
@@ -22,7 +22,7 @@ use Rattle.machine.specs.declared.machine.Machine.{Machine}
 use Rattle.machine.specs.declared.call.Call.{Call}
 use Rattle.machine.specs.declared.call.Call.the-variants.{Release, Finish, Slot, Offer, Commit}
 use Rattle.conformance.specs.Runs.{line, answers, refusals, runIs, emptyRefusals}
-use Rattle.conformance.specs.CallExamples.{many, allKinds, whole}
+use Rattle.conformance.specs.CallExamples.{many, withoutTasks, madeByHand, allKinds, whole}
 
 -- the numbers of a task, and of what is held: none, or those of the task
 unfoldable pub taskNumbers : Task → List ℕ
@@ -60,11 +60,11 @@ menu = Commit ∷ Offer (task 10 6 8) ∷ Offer (task 5 6 5) ∷ Offer (task 10 
 unfoldable pub amid : List Call
 amid = Release 2 2 ∷ Offer (task 10 6 8) ∷ Slot 2 ∷ Commit ∷ Release 3 6 ∷ replicate 6 (Slot 2)
 
--- a machine made by hand that holds a task, with an open job and a core in the entry that the task will have
+-- a machine made by hand that holds a task, with another task, an open job and a core in the entry that the task will have
 unfoldable pub leftOver : Machine
 leftOver =
     record {
-      table = tableOf (task 6 3 5 ∷ []);
+      table = record { count = 1; tasks = tableOf (task 6 3 5 ∷ task 7 7 7 ∷ []) .tasks };
       cores = 1;
       jobs = set (replicate maxTasks freshJob) 1 (record { «open» = true; left = 9; budget = 9; gap = 9 });
       assigned = set (replicate maxTasks 0) 1 17;
@@ -99,6 +99,10 @@ offerExamples =
     runIs two 2 (Release 1 1 ∷ Offer (task 1 1 1) ∷ Slot 2 ∷ Slot 2 ∷ []) [] (line 1 1 0 ∷ line 0 0 0 ∷ []) ∷
     emptyRefusals (answers two 2 (Offer (task 5 6 5) ∷ Offer (task 10 10 9) ∷ Offer (task 0 0 0) ∷ Commit ∷ [])) ∷
     emptyRefusals (answers (task 5 5 5 ∷ []) 1 (Offer (task 5 5 5) ∷ Commit ∷ [])) ∷
+    -- a commit may make the 32nd task, and after it an offer is refused by 12, at place 0, but by 5 where its task is out of range
+    runIs (drop 1 many) 16 (Offer (task 40 1 40) ∷ Commit ∷ Offer (task 40 1 40) ∷ Commit ∷ []) (12 ∷ 17 ∷ []) [] ∷
+    emptyRefusals (answers many 16 (Offer (task 40 1 40) ∷ [])) ∷
+    runIs many 16 (Offer (task 5 6 5) ∷ []) (5 ∷ []) [] ∷
     -- on a table that is not admitted no offer is
     runIs whole 1 (Offer (task 1_000_000 1 1_000_000) ∷ Commit ∷ []) (13 ∷ 17 ∷ []) [] ∷
     -- a machine made by hand that holds a task which an offer would take is sound
@@ -117,7 +121,12 @@ offerExamples =
     sameNumbers (refusals (play (withHeld two 2 (task 5 6 5)) allKinds)) (replicate 10 0) ∷
     -- and leaves what is held
     sameNumbers (heldNumbers (machineAfter (withHeld two 2 (task 5 6 5)) allKinds .held)) (5 ∷ 6 ∷ 5 ∷ []) ∷
-    -- a commit clears the job and the core that stood in the new task's entry
+    -- what an unsound job makes unsound stays so with a held task that an offer would take
+    not (sound (holding (madeByHand true 4 2 3) (Offered (task 9 1 9)))) ∷
+    sound (holding (madeByHand true 4 2 4) (Offered (task 9 1 9))) ∷
+    sameNumbers (refusals (play withoutTasks (Commit ∷ []))) (0 ∷ []) ∷
+    -- a commit writes all of the new task's entry, whatever stood there
+    sameNumbers (taskNumbers (taskAt (machineAfter leftOver (Commit ∷ [])) 1)) (9 ∷ 1 ∷ 9 ∷ []) ∷
     sameNumbers (refusals (play leftOver (Release 2 1 ∷ Finish 2 ∷ Commit ∷ Finish 2 ∷ Release 2 1 ∷ Commit ∷ []))) (8 ∷ 8 ∷ 11 ∷ 17 ∷ []) ∷
     -- a start, and a refused one, hold none
     heldIs two 2 [] [] ∷

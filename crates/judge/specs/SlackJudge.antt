@@ -47,6 +47,6 @@ unfoldable pub admissionValuesOf : Admission → AdmissionValues
 admissionValuesOf (Adm.Judged admits) = record { outcome = Out.Done; admits = admits }
 admissionValuesOf (Adm.Refused number place) = record { outcome = Out.Refused number place; admits = false }
 
--- "Joins and the C entry go by this test from now on"
+-- "Joins and the C entry go by this test from now on", by change 10 offers
 unfoldable pub admission : Table → (m : ℕ) → AdmissionValues
 admission t m = let verdict = slackJudged t m in record { outcome = verdict .outcome; admits = verdict .admits }

@@ -23,7 +23,7 @@ pub record AdmitsCheaper (admits : Table → (m : ℕ) → Bool) (t : Table) (m 
 unfoldable pub StaysAdmitted : (admits : Table → (m : ℕ) → Bool) → Type 0
 StaysAdmitted admits = (t : Table) (m : ℕ) → admits t m ≡ true → AdmitsCheaper admits t m
 
--- this of each verdict: the window test's, the slack test's, and the admission, by which joins and the entry for C go
+-- this of each verdict: the window test's, the slack test's, and the admission, by which offers and the entry for C go
 pub record EachStaysAdmitted : Type 0 where
   pub by-window : StaysAdmitted (λ t m. judged t m .admits)
   pub by-slack : StaysAdmitted (λ t m. slackJudged t m .admits)

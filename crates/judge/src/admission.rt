@@ -1,4 +1,4 @@
-// Whether the slack test admits a table, by which joins and the entry for a host go: document 02, change 6.
+// Whether the slack test admits a table, by which offers and the entry for a host go: document 02, changes 6 and 10.
 use crate::numbers::numbers_of;
 use crate::rounds::last_round;
 use crate::sums::window_sums;

@@ -15,7 +15,7 @@ use Rattle.tasks.specs.Table.{withTask}
 use Rattle.machine.specs.Machine.{jobAt, coreAt, withJob, holding}
 use Rattle.machine.specs.Slot.{noReport}
 use Rattle.machine.specs.Calls.{withJoined, step}
-use Rattle.machine.specs.InTime.{isSlot, isFinishOf, Point, committed, pointBy}
+use Rattle.machine.specs.InTime.{isSlot, isFinishOf, Point, withOffered, pointBy}
 use Rattle.machine.specs.declared.held.Held.the-variants.{Offered}
 use Rattle.machine.specs.declared.machine.Machine.{Machine}
 use Rattle.machine.specs.declared.call.Call.{Call}
@@ -95,7 +95,7 @@ module _ (m : Machine) where
       }
 
   silent-commit : (t : Task) → CommitTaken m t → Silent m Commit (withJoined m t)
-  unfolding isSlot pointOf pointBy committed coreAt withJoined withTask
+  unfolding isSlot pointOf pointBy withOffered coreAt withJoined withTask
   silent-commit t taken =
       record {
         no-slot = refl;

@@ -20,15 +20,15 @@ use Rattle.judge.specs.SlackExamples.{fourTasks}
 use Rattle.machine.specs.Slot.{noReport}
 use Rattle.machine.specs.Calls.{start}
 use Rattle.machine.specs.Play.{Entry, play}
-use Rattle.machine.specs.InTime.{isFinishOf, acceptedFinish, saysRan, saysFinished, slotCount, upToSlot, ranWhole, anyFinish, committed, pointBy, pointAfter, tableAfter, closedBySlot, InTime, Promise}
-use Rattle.machine.specs.Claims.{slotOf, idle, ranOn, ranLast, acceptedCall, refusedCall, closedIn, threeTasks, fourth, claims}
+use Rattle.machine.specs.InTime.{isFinishOf, acceptedFinish, saysRan, saysFinished, slotCount, upToSlot, ranWhole, anyFinish, withOffered, pointBy, pointAfter, tableAfter, closedBySlot, InTime, Promise}
+use Rattle.machine.specs.Claims.{slotOf, idle, ranOn, ranLast, acceptedCall, refusedCall, closedIn, threeTasks, fourth, twoCommits, claims}
 use Rattle.machine.specs.declared.call.Call.{Call}
 use Rattle.machine.specs.declared.call.Call.the-variants.{Release, Slot, Offer, Commit}
 use Rattle.machine.proofs.Computing.{computing}
 use Rattle.machine.proofs.InTimeHolds.{promise}
 
 pub claims-hold : allTrue claims ≡ true
-unfolding computing saysRan saysFinished slotCount upToSlot ranWhole acceptedFinish isFinishOf anyFinish closedBySlot committed pointBy pointAfter tableAfter slotOf idle ranOn ranLast acceptedCall refusedCall closedIn threeTasks fourth claims allTrue
+unfolding computing saysRan saysFinished slotCount upToSlot ranWhole acceptedFinish isFinishOf anyFinish closedBySlot withOffered pointBy pointAfter tableAfter slotOf idle ranOn ranLast acceptedCall refusedCall closedIn threeTasks fourth twoCommits claims allTrue
 claims-hold = refl
 
 -- a slot of a log made by hand in which task 2 is late
@@ -61,13 +61,13 @@ fourthRan finished =
           };
     }
 
--- a log made by hand: task 4, which joined, is released with a need of 2, below its budget, and in the three slots to its deadline it runs three times and
+-- a log made by hand: task 4, which was withOffered, is released with a need of 2, below its budget, and in the three slots to its deadline it runs three times and
 -- finishes with the third; the claim fails of that release
 pub unclosed-refuted :
     (InTime threeTasks
     (acceptedCall (Release 1 1) ∷ acceptedCall (Offer (task 9 3 3)) ∷ acceptedCall Commit ∷ acceptedCall (Release 4 2) ∷ fourthRan false ∷ fourthRan false ∷ fourthRan true ∷ []))
     → ⊥
-unfolding computing acceptedCall threeTasks fourthRan saysRan saysFinished slotCount upToSlot ranWhole acceptedFinish isFinishOf anyFinish closedBySlot committed pointBy pointAfter tableAfter
+unfolding computing acceptedCall threeTasks fourthRan saysRan saysFinished slotCount upToSlot ranWhole acceptedFinish isFinishOf anyFinish closedBySlot withOffered pointBy pointAfter tableAfter
 unclosed-refuted claim =
     not-both false
     (claim .all-closed (acceptedCall (Release 1 1) ∷ acceptedCall (Offer (task 9 3 3)) ∷ acceptedCall Commit ∷ []) (fourthRan false ∷ fourthRan false ∷ fourthRan true ∷ [])
@@ -105,7 +105,7 @@ exampleCalls : List Call
 exampleCalls = Release 1 1 ∷ Release 2 1 ∷ Release 3 1 ∷ Release 4 2 ∷ replicate 8 (Slot 2)
 
 pub not-empty : NotEmpty
-unfolding computing fourTasks exampleCalls saysRan saysFinished slotCount committed pointBy pointAfter tableAfter
+unfolding computing fourTasks exampleCalls saysRan saysFinished slotCount withOffered pointBy pointAfter tableAfter
 not-empty =
     let entries = play (start (tableOf fourTasks) 2 .machine) exampleCalls in
     record {

@@ -1,4 +1,4 @@
--- The recorded cores stay sound: at a start (`fresh-cores`), after an accepted slot (`slot-cores`) and after an accepted join (`join-cores`).
+-- The recorded cores stay sound: at a start (`fresh-cores`), after an accepted slot (`slot-cores`) and after an accepted commit (`join-cores`).
 use Prim.Native.Nat.{ℕ, _+_, _≤_, _<_}
 use mathlib.Core.Path.{_≡_, sym, _∙_}
 use mathlib.Core.Bool.{Bool, true}

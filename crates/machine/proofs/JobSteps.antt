@@ -1,5 +1,5 @@
--- An accepted release, finish and join are the theory's steps: `release-step`, `finish-step` and `join-step`. The job that a release opens is
--- `released-job`, and the jobs after a join are `old-job` and `new-job`.
+-- An accepted release, finish and commit are the theory's steps: `release-step`, `finish-step` and `join-step`. The job that a release opens is
+-- `released-job`, and the jobs after a commit are `old-job` and `new-job`.
 use Prim.Native.Nat.{ℕ, _-_, _<_}
 use mathlib.Core.Path.{_≡_}
 use lib.ListN.{length, set, length-set, List·getD-eq-default}

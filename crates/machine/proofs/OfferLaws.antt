@@ -3,7 +3,7 @@
 use Prim.Native.Nat.{ℕ, _<_}
 use native.Mathlib.Omega.{arith}
 use mathlib.Core.Path.{_≡_}
-use mathlib.Core.Bool.{Bool, true, false, cond, not}
+use mathlib.Core.Bool.{Bool, true, cond, not}
 use lib.Dec.{leb}
 use borrow.Author.Tests.{not-false, leb-false}
 use Rattle.laws.proofs.CaseSplits.{by-cond, clash}

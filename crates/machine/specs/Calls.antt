@@ -30,7 +30,7 @@ use Rattle.machine.specs.declared.answer.Answer.{Answer}
 unfoldable pub done : Machine → Answer
 done m = record { machine = m; outcome = Done; report = noReport }
 
--- "a refused call the same machine"; "every other refusal, and a join's 5, carries 0", by change 10 an offer's
+-- "a refused call the same machine"; "every other refusal .. carries 0"
 unfoldable pub refuse : Machine → (number : ℕ) → Answer
 refuse m number = record { machine = m; outcome = Refused number 0; report = noReport }
 

@@ -1,8 +1,8 @@
--- Logs made by hand, and what the claim of demand 3 says of them, as entries of a list of computed tests: so that a weaker claim does not go unseen. `allTrue`
--- of crate laws is the test, and the theorem stands in proofs/ClaimsHold.antt.
+-- Logs made by hand, and what the claim of demand 3 says of them, as entries of a list of computed tests: so that a weaker reading of
+-- slots, of closing or of the table does not go unseen. `allTrue` of crate laws is the test, and the theorem stands in proofs/ClaimsHold.antt.
 use Prim.Native.Nat.{ℕ}
 use mathlib.Core.Bool.{Bool, true, false, not}
-use mathlib.Core.List.{List, [], _∷_}
+use mathlib.Core.List.{List, [], _∷_, _++_}
 use lib.Dec.{eqb}
 use lib.ListN.{getD, replicate}
 use Rattle.laws.specs.Sums.{bit}
@@ -58,6 +58,10 @@ threeTasks = tableOf (replicate 3 (task 6 2 5))
 unfoldable pub fourth : List Entry → ℕ
 fourth log = getD (tableAfter threeTasks log .tasks) 3 zeroTask .deadline
 
+-- two offers, each committed
+unfoldable pub twoCommits : List Entry
+twoCommits = acceptedCall (Offer (task 9 1 2)) ∷ acceptedCall Commit ∷ acceptedCall (Offer (task 9 1 3)) ∷ acceptedCall Commit ∷ []
+
 -- what the claim says of logs
 unfoldable pub claims : List Bool
 claims =
@@ -98,9 +102,11 @@ claims =
     -- a later accepted offer displaces it, a refused one does not
     eqb (fourth (acceptedCall (Offer (task 9 1 2)) ∷ acceptedCall (Offer (task 9 1 3)) ∷ acceptedCall Commit ∷ [])) 3 ∷
     eqb (fourth (acceptedCall (Offer (task 9 1 2)) ∷ refusedCall (Offer (task 9 1 3)) ∷ acceptedCall Commit ∷ [])) 2 ∷
-    -- since the last accepted commit: each commit adds the offer after the one before
-    eqb (fourth (acceptedCall (Offer (task 9 1 2)) ∷ acceptedCall Commit ∷ acceptedCall (Offer (task 9 1 3)) ∷ acceptedCall Commit ∷ [])) 2 ∷
-    eqb
-    (tableAfter threeTasks (acceptedCall (Offer (task 9 1 2)) ∷ acceptedCall Commit ∷ acceptedCall (Offer (task 9 1 3)) ∷ acceptedCall Commit ∷ []) .count)
-    5 ∷
+    -- other refused calls between leave it
+    eqb (fourth (acceptedCall (Offer (task 9 1 2)) ∷ refusedCall (Slot 1) ∷ refusedCall (Finish 1) ∷ refusedCall (Release 1 1) ∷ acceptedCall Commit ∷ [])) 2 ∷
+    -- since the last accepted commit: the next one adds the offer after it, and without one none
+    eqb (fourth twoCommits) 2 ∷
+    eqb (getD (tableAfter threeTasks twoCommits .tasks) 4 zeroTask .deadline) 3 ∷
+    eqb (tableAfter threeTasks twoCommits .count) 5 ∷
+    eqb (tableAfter threeTasks (twoCommits ++ acceptedCall Commit ∷ []) .count) 5 ∷
     []

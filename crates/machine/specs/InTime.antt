@@ -82,10 +82,11 @@ pub record Point : Type 0 where
   pub table : Table
   pub offered : Held
 
--- document 02, change 10: a commit "adds the held task"; no machine accepts one that no accepted offer precedes
-unfoldable pub committed : Held → Table → Table
-committed None t = t
-committed (Offered task) t = withTask t task
+-- the table after a commit of what is offered: document 02, change 10, "Commit adds the held task"; from a start none is accepted without an accepted offer
+-- since the last accepted commit
+unfoldable pub withOffered : Held → Table → Table
+withOffered None t = t
+withOffered (Offered task) t = withTask t task
 
 -- the point after an accepted call: an offer is "displacing an earlier offer", and a commit "adds the held task and holds none"
 unfoldable pub pointBy : Call → Point → Point
@@ -93,7 +94,7 @@ pointBy (Release number need) p = p
 pointBy (Finish number) p = p
 pointBy (Slot k) p = p
 pointBy (Offer task) p = record { table = p .table; offered = Offered task }
-pointBy Commit p = record { table = committed (p .offered) (p .table); offered = None }
+pointBy Commit p = record { table = withOffered (p .offered) (p .table); offered = None }
 
 -- the point after some calls, refused ones among them
 unfoldable pub pointAfter : Point → List Entry → Point
@@ -119,7 +120,8 @@ pub record InTime (t : Table) (log : List Entry) : Type 0 where
       deadline ≤ slotCount after → closedBySlot number need deadline after ≡ true
 
 -- the claim of every list of calls from a fresh machine on a table that is admitted; document 02, change 1: "whichever k, from m to 16, each slot
--- gets", since the slots of a list name any k; change 5: "for all choices of e", since its releases name any e; change 6: "true of tables admitted here"
+-- gets", since the slots of a list name any k; change 5: "for all choices of e", since its releases name any e; change 6: "true of tables admitted here";
+-- change 10: "Lists of calls, and the buyers' line over them, now contain offer and commit."
 unfoldable pub Promise : Table → (cores : ℕ) → Type 0
 Promise t cores = admission t cores .admits ≡ true → (calls : List Call) → InTime t (play (start t cores .machine) calls)
 

@@ -16,7 +16,8 @@ use Rattle.judge.specs.declared.admission.Admission.the-variants as Adm
 use Rattle.machine.specs.declared.held.Held.{Held}
 use Rattle.machine.specs.declared.held.Held.the-variants.{None, Offered}
 
--- the verdict on the table with the task "added at the end", after 5 and 12 were tried; change 6: "Joins .. go by this test"
+-- 5, then 12, then the verdict on the table with the task "added at the end", each as an admission, which the code's offer takes apart; "a join's 5, carries
+-- 0"; change 6: "Joins .. go by this test"
 unfoldable pub offerVerdict : Table → (cores : ℕ) → Task → AdmissionValues
 offerVerdict t cores task =
     cond (not (inRange task)) (admissionValuesOf (Adm.Refused taskOutOfRange 0))
@@ -28,7 +29,8 @@ offerChecked t cores task =
     let verdict = offerVerdict t cores task in
     firstRefusal (verdict .outcome) (cond (verdict .admits) Done (Refused notAdmitted 0))
 
--- "A machine whose held task the offer would refuse now by 5, 12 or 13 is unsound.", the other way round
+-- "A machine whose held task the offer would refuse now by 5, 12 or 13 is unsound.", the other way round; where a start would refuse the table or m, the
+-- machine is unsound already
 unfoldable pub heldSound : Held → Table → (cores : ℕ) → Bool
 heldSound None t cores = true
 heldSound (Offered task) t cores = isDone (offerChecked t cores task)

@@ -17,13 +17,13 @@ use Rattle.text.proofs.Taken.{Taken, taken, untaken}
 use Rattle.machine.specs.declared.call.Call.{Call}
 use Rattle.machine.specs.declared.machine.Machine.{Machine}
 use Rattle.script.specs.Numbers.{maxDigits, maxNumber}
-use Rattle.script.specs.Calls.{callOf}
+use Rattle.script.specs.Calls.{fieldsTask, callOf}
 use Rattle.script.specs.declared.calls.CallLine.{CallLine}
 use Rattle.script.specs.declared.calls.CallLine.the-variants as CallLine
 use Rattle.script.proofs.CallLaws.{longestCall, call-short}
 use Rattle.tasks.specs.Limits.{maxTasks}
 use Rattle.probe.specs.Words.{machineWord, noneWord, heldWord}
-use Rattle.probe.specs.Input.{isMachineLine, countOf, coresOf, zeroEntries, isEntryLine, entryTask, entryJob, entryCore, withEntry, isHeldLine, heldOf, onlyCall, lastLine}
+use Rattle.probe.specs.Input.{isMachineLine, countOf, coresOf, zeroEntries, isEntryLine, entryJob, entryCore, withEntry, isHeldLine, onlyCall, lastLine}
 use Rattle.probe.specs.Printed.{printedHeld, printedFrom, printed}
 
 -- a first line that has at most b bytes with its byte 10 where it is what it must be
@@ -127,7 +127,7 @@ entries-same m i (suc more) k s h =
     by-test (firstIs isEntryLine s)
     (λ b.
     let (n, t) = first-taken isEntryLine entryLength entry-short k s (omega arith) b in
-    rw (same, b, t .line, t .rest) (entries-same (withEntry m i (entryTask l) (entryJob l) (entryCore l)) (suc i) more (k - (length l + 1)) (after lineEnd s) (omega arith)))
+    rw (same, b, t .line, t .rest) (entries-same (withEntry m i (fieldsTask l) (entryJob l) (entryCore l)) (suc i) more (k - (length l + 1)) (after lineEnd s) (omega arith)))
     (λ b. rw (same, b))
 
 printed-same : (k : ℕ) (s : List ℕ) → machineLength + entryLength * maxTasks + heldLength + lastLength ≤ k → printed (take k s) ≡ printed s

@@ -8,9 +8,9 @@ use Rattle.text.specs.Fields.{eachNumber, areNumbers}
 use Rattle.text.specs.Output.{furtherNumbers, numbersLine, refusedLine}
 use Rattle.machine.specs.Machine.{coreAt}
 use Rattle.machine.proofs.Computing.{computing}
-use Rattle.script.specs.Calls.{releaseOf, taskFields, offerOf, callWith, callOf}
+use Rattle.script.specs.Calls.{releaseOf, fieldsTask, taskFields, offerOf, callWith, callOf}
 use Rattle.script.specs.Output.{badLine, acceptedLine, outcomeLine, answerLine}
-use Rattle.probe.specs.Input.{isMachineLine, countOf, coresOf, zeroEntries, isEntryLine, entryTask, entryJob, entryCore, withEntry, isHeldLine, heldOf, onlyCall, lastLine}
+use Rattle.probe.specs.Input.{isMachineLine, countOf, coresOf, zeroEntries, isEntryLine, entryJob, entryCore, withEntry, isHeldLine, heldOf, onlyCall, lastLine}
 use Rattle.probe.specs.Output.{entryLine, entryLines, heldLine, machineLines}
 use Rattle.probe.specs.Printed.{shown, printedAsked, printedHeld, printedFrom, printed}
 use Rattle.probe.specs.Examples.{exampleText, exampleOutput, zeroLines, closedTask, noneHeld, oneHeld, releaseText, releaseOutput, refusedText, refusedOutput, offerText, offerOutput, commitText, commitOutput, shortText, shortOutput}
@@ -31,7 +31,7 @@ unfolding
     isDigit allDigits leadingZero wellFormed decimalFrom decimal isNumber numberOf numberAfter digitsOf decimalText
     eachNumber areNumbers furtherNumbers numbersLine refusedLine badLine coreAt computing
     releaseOf taskFields offerOf callWith callOf acceptedLine outcomeLine answerLine
-    firstIs isMachineLine countOf coresOf zeroEntries isEntryLine entryTask entryJob entryCore withEntry isHeldLine heldOf onlyCall lastLine
+    firstIs isMachineLine countOf coresOf zeroEntries isEntryLine fieldsTask entryJob entryCore withEntry isHeldLine heldOf onlyCall lastLine
     entryLine entryLines heldLine machineLines shown printedAsked printedHeld printedFrom printed
     zeroLines closedTask noneHeld oneHeld
 computingLines = true

@@ -17,7 +17,8 @@ use Rattle.tasks.specs.Limits.{maxTasks}
 use Rattle.tasks.specs.declared.task.Task.{Task}
 use Rattle.job.specs.declared.job.Job.{Job}
 use Rattle.machine.specs.declared.machine.Machine.{Machine}
-use Rattle.probe.specs.Input.{isEntryLine, entryTask, entryJob, entryCore, withEntry, entryFrom}
+use Rattle.script.specs.Calls.{fieldsTask}
+use Rattle.probe.specs.Input.{isEntryLine, entryJob, entryCore, withEntry, entryFrom}
 use Rattle.probe.specs.Printed.{printedAsked, printedHeld, printedFrom}
 use Rattle.probe.specs.declared.input.Asked.the-variants as Asked
 use Rattle.probe.specs.declared.input.EntryLine.the-variants.{Read, Bad}
@@ -25,7 +26,7 @@ use Rattle.probe.specs.declared.input.EntryLine.the-variants.{Read, Bad}
 -- what the line of an entry says of the text that begins with it
 record Entered (s : List ℕ) (t : Task) (j : Job) (c n : ℕ) : Type 0 where
   is : firstIs isEntryLine s ≡ true
-  task : entryTask (before lineEnd s) ≡ t
+  task : fieldsTask (before lineEnd s) ≡ t
   job : entryJob (before lineEnd s) ≡ j
   core : entryCore (before lineEnd s) ≡ c
   within : n ≤ length s

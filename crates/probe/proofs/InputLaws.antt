@@ -18,7 +18,7 @@ use Rattle.text.proofs.Split.{Cut, cut, hasnt-of}
 use Rattle.text.proofs.LineLaws.{no-bytes, some-bytes}
 use Rattle.text.proofs.FilledFromLine.{entry-is}
 use Rattle.script.specs.Numbers.{maxDigits, maxNumber}
-use Rattle.script.specs.Calls.{taskFields, callOf}
+use Rattle.script.specs.Calls.{fieldsTask, taskFields, callOf}
 use Rattle.script.specs.declared.task.TaskFields.the-variants as TaskFields
 use Rattle.script.proofs.TaskLaws.{task-bad, task-read}
 use Rattle.script.specs.declared.calls.CallLine.the-variants as CallLine
@@ -26,7 +26,7 @@ use Rattle.tasks.specs.declared.task.Task.{Task}
 use Rattle.machine.specs.declared.held.Held.the-variants.{None, Offered}
 use Rattle.machine.specs.declared.call.Call.{Call}
 use Rattle.probe.specs.Words.{machineWord, noneWord, heldWord}
-use Rattle.probe.specs.Input.{isMachineLine, countOf, coresOf, isEntryLine, entryTask, entryJob, entryCore, isHeldLine, heldOf, firstLine, entryFrom, heldFrom, callNumber, onlyCall, lastLine}
+use Rattle.probe.specs.Input.{isMachineLine, countOf, coresOf, isEntryLine, entryJob, entryCore, isHeldLine, heldOf, firstLine, entryFrom, heldFrom, callNumber, onlyCall, lastLine}
 use Rattle.probe.specs.declared.input.FirstLine.the-variants as First
 use Rattle.probe.specs.declared.input.EntryLine.the-variants as Entry
 use Rattle.probe.specs.declared.input.HeldLine.the-variants as HeldLine
@@ -96,7 +96,7 @@ module _ (s : List ℕ) (k : ℕ) (e : k ≡ length (before lineEnd s)) where
           (getD a 7 0)
           (k + 1)
           ≡ entryFrom s
-      unfolding entryFrom firstIs isEntryLine entryTask entryJob entryCore
+      unfolding entryFrom firstIs isEntryLine fieldsTask entryJob entryCore
       entry-read o =
           let is = number-at in
           rw (line .is, ← line .front, ← n .is, ← is 3 (omega arith), le-leb (getD a 3 0) 1 o, ap length (line .front) ∙ sym e)
@@ -120,7 +120,7 @@ module _ (s : List ℕ) (k : ℕ) (e : k ≡ length (before lineEnd s)) where
             rw (line .is, ← line .front, other, w, rw (from-drop (take k s) (length heldWord)) at n)
 
         pub held-read : (t : Task) → taskFields (from (take k s) (length heldWord)) ≡ TaskFields.Read t → HeldLine.Read (Offered t) (k + 1) ≡ heldFrom s
-        unfolding heldFrom firstIs isHeldLine heldOf entryTask
+        unfolding heldFrom firstIs isHeldLine heldOf fieldsTask
         held-read t b =
             let r = task-read _ t b in
             let f = from-drop (take k s) (length heldWord) in

@@ -19,7 +19,7 @@ use Rattle.machine.specs.declared.held.Held.{Held}
 use Rattle.machine.specs.declared.held.Held.the-variants.{None, Offered}
 use Rattle.machine.specs.declared.machine.Machine.{Machine}
 use Rattle.script.specs.Numbers.{maxDigits, maxNumber}
-use Rattle.script.specs.Calls.{callOf}
+use Rattle.script.specs.Calls.{fieldsTask, callOf}
 use Rattle.script.specs.declared.calls.CallLine.{CallLine}
 use Rattle.script.specs.declared.calls.CallLine.the-variants as CallLine
 use Rattle.probe.specs.Words.{machineWord, noneWord, heldWord}
@@ -59,11 +59,7 @@ zeroEntries count cores =
 unfoldable pub isEntryLine : List ℕ → Bool
 isEntryLine l = areNumbers maxDigits maxNumber 8 l && leb (decimal (field 3 l)) 1
 
--- the task of such a line
-unfoldable pub entryTask : List ℕ → Task
-entryTask l = record { period = decimal (field 0 l); budget = decimal (field 1 l); deadline = decimal (field 2 l) }
-
--- the job of such a line: "OWED the budget still owed"
+-- the job of such a line, whose task is that of its first three fields: "OWED the budget still owed"
 unfoldable pub entryJob : List ℕ → Job
 entryJob l =
     record { «open» = eqb (decimal (field 3 l)) 1; left = decimal (field 4 l); budget = decimal (field 5 l); gap = decimal (field 6 l) }
@@ -89,7 +85,7 @@ isHeldLine l = sameBytes l noneWord || (beginsWith heldWord l && areNumbers maxD
 
 -- what such a line says that the machine holds
 unfoldable pub heldOf : List ℕ → Held
-heldOf l = cond (sameBytes l noneWord) None (Offered (entryTask (drop (length heldWord) l)))
+heldOf l = cond (sameBytes l noneWord) None (Offered (fieldsTask (drop (length heldWord) l)))
 
 -- for the contract of a private function: what the first line of a text says as the machine's, and how many bytes it has with its byte 10
 unfoldable pub firstLine : List ℕ → FirstLine
@@ -98,7 +94,7 @@ firstLine s =
 
 -- for the contract of another: what the first line of a text says as an entry's, and how many bytes it has with its byte 10
 unfoldable pub entryFrom : List ℕ → EntryLine
-entryFrom s = let l = before lineEnd s in cond (firstIs isEntryLine s) (Entry.Read (entryTask l) (entryJob l) (entryCore l) (length l + 1)) Entry.Bad
+entryFrom s = let l = before lineEnd s in cond (firstIs isEntryLine s) (Entry.Read (fieldsTask l) (entryJob l) (entryCore l) (length l + 1)) Entry.Bad
 
 -- for the contract of a third: what the first line of a text says that the machine holds, and how many bytes it has with its byte 10
 unfoldable pub heldFrom : List ℕ → HeldLine

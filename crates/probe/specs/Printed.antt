@@ -8,8 +8,9 @@ use Rattle.machine.specs.Machine.{holding}
 use Rattle.machine.specs.Calls.{step}
 use Rattle.machine.specs.declared.machine.Machine.{Machine}
 use Rattle.machine.specs.declared.call.Call.{Call}
+use Rattle.script.specs.Calls.{fieldsTask}
 use Rattle.script.specs.Output.{badLine, answerLine, answerRoom}
-use Rattle.probe.specs.Input.{isMachineLine, countOf, coresOf, zeroEntries, isEntryLine, entryTask, entryJob, entryCore, withEntry, isHeldLine, heldOf, heldNumber, lastLine}
+use Rattle.probe.specs.Input.{isMachineLine, countOf, coresOf, zeroEntries, isEntryLine, entryJob, entryCore, withEntry, isHeldLine, heldOf, heldNumber, lastLine}
 use Rattle.probe.specs.Output.{machineLines, machineRoom}
 use Rattle.probe.specs.declared.input.Asked.{Asked}
 use Rattle.probe.specs.declared.input.Asked.the-variants.{Read, Bad}
@@ -33,7 +34,7 @@ unfoldable pub printedFrom : Machine → (i more : ℕ) → List ℕ → List �
 printedFrom m i zero s = printedHeld m s
 printedFrom m i (suc more) s =
     let l = before lineEnd s in
-    cond (firstIs isEntryLine s) (printedFrom (withEntry m i (entryTask l) (entryJob l) (entryCore l)) (suc i) more (after lineEnd s)) (badLine (i + 2))
+    cond (firstIs isEntryLine s) (printedFrom (withEntry m i (fieldsTask l) (entryJob l) (entryCore l)) (suc i) more (after lineEnd s)) (badLine (i + 2))
 
 -- what is printed for a text: "n, counted from 1, is the first line that is not what it must be, is not ended, or is missing"
 unfoldable pub printed : List ℕ → List ℕ

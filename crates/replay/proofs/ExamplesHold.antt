@@ -9,7 +9,7 @@ use Rattle.reader.specs.Value.{isValue}
 use Rattle.reader.specs.Names.{columnIn, columnsIn, eachNamed, columnsOf, threeNames, beginsWithNames}
 use Rattle.reader.specs.Reading.{refused, threeValues, beginsWithValues, taskOf, ended, valueLines, reading}
 use Rattle.machine.proofs.Computing.{computing}
-use Rattle.script.specs.Calls.{releaseOf, taskFields, offerOf, callWith, callOf}
+use Rattle.script.specs.Calls.{releaseOf, fieldsTask, taskFields, offerOf, callWith, callOf}
 use Rattle.script.specs.Output.{badLine, runnerCores, reportLine, acceptedLine, outcomeLine, answerLine}
 use Rattle.replay.specs.Calls.{callsFrom, callsStart}
 use Rattle.replay.specs.Script.{onCall, answerLines, printedAfterStart, printedAfterReading, printedFor, printedAfterCores, printedAfterFirst, printed}
@@ -22,7 +22,7 @@ unfolding
     eachNumber areNumbers furtherNumbers numbersLine refusedLine
     firstIs isValue columnIn columnsIn eachNamed columnsOf threeNames beginsWithNames
     refused threeValues beginsWithValues taskOf ended isEmpty valueLines reading computing
-    releaseOf taskFields offerOf callWith callOf callsFrom callsStart
+    releaseOf fieldsTask taskFields offerOf callWith callOf callsFrom callsStart
     badLine runnerCores reportLine acceptedLine outcomeLine answerLine onCall answerLines
     printedAfterStart printedAfterReading printedFor printedAfterCores printedAfterFirst printed
     exampleScript exampleOutput

@@ -7,13 +7,11 @@ use mathlib.Core.Bool.{true, false}
 use mathlib.Core.List.{List}
 use lib.ListN.{length}
 use Rattle.laws.proofs.CaseSplits.{by-cond, clash}
-use Rattle.text.specs.Lines.{field}
-use Rattle.text.specs.Number.{decimal}
 use Rattle.text.specs.Fields.{areNumbers}
 use Rattle.text.proofs.Lengths.{numbers-short}
 use Rattle.tasks.specs.declared.task.Task.{Task}
 use Rattle.script.specs.Numbers.{maxDigits, maxNumber}
-use Rattle.script.specs.Calls.{taskFields}
+use Rattle.script.specs.Calls.{fieldsTask, taskFields}
 use Rattle.script.specs.declared.task.TaskFields.{TaskFields}
 use Rattle.script.specs.declared.task.TaskFields.the-variants.{Read, Bad}
 
@@ -32,7 +30,7 @@ module _ (f : List ℕ) where
 
   pub record TaskRead (t : Task) : Type 0 where
     pub numbers : areNumbers maxDigits maxNumber 3 f ≡ true
-    pub task-is : record { period = decimal (field 0 f); budget = decimal (field 1 f); deadline = decimal (field 2 f) } ≡ t
+    pub task-is : fieldsTask f ≡ t
 
   pub task-read : (t : Task) → taskFields f ≡ Read t → TaskRead t
   unfolding taskFields

@@ -10,6 +10,7 @@ use Rattle.text.specs.Number.{decimal, numberAfter}
 use Rattle.text.specs.Fields.{areNumbers}
 use Rattle.text.specs.declared.number.Number.{Number}
 use Rattle.text.specs.declared.number.Number.the-variants as Number
+use Rattle.tasks.specs.declared.task.Task.{Task}
 use Rattle.machine.specs.declared.call.Call.{Call}
 use Rattle.machine.specs.declared.call.Call.the-variants.{Release, Finish, Slot, Offer, Commit}
 use Rattle.script.specs.Words.{releaseWord, finishWord, slotWord, offerWord, commitWord}
@@ -23,12 +24,13 @@ use Rattle.script.specs.declared.calls.CallLine.the-variants.{Read, Bad}
 unfoldable pub releaseOf : List ℕ → CallLine
 releaseOf f = cond (areNumbers maxDigits maxNumber 2 f) (Read (Release (decimal (field 0 f)) (decimal (field 1 f)))) Bad
 
+-- the task whose T, C and D are the first three of some fields
+unfoldable pub fieldsTask : List ℕ → Task
+fieldsTask f = record { period = decimal (field 0 f); budget = decimal (field 1 f); deadline = decimal (field 2 f) }
+
 -- the task of the fields "T C D", if they are three numbers
 unfoldable pub taskFields : List ℕ → TaskFields
-taskFields f =
-    cond (areNumbers maxDigits maxNumber 3 f)
-    (TaskFields.Read (record { period = decimal (field 0 f); budget = decimal (field 1 f); deadline = decimal (field 2 f) }))
-    TaskFields.Bad
+taskFields f = cond (areNumbers maxDigits maxNumber 3 f) (TaskFields.Read (fieldsTask f)) TaskFields.Bad
 
 -- the offer of a task, if it was read
 unfoldable pub offerOf : TaskFields → CallLine

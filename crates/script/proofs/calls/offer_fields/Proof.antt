@@ -1,5 +1,5 @@
 -- `offer_fields` meets its contract: by whether the fields are a task.
-use mathlib.Core.Path.{_≡_, sym, ap, _∙_}
+use mathlib.Core.Path.{sym, ap, _∙_}
 use borrow.Author.Needs.{needs}
 use Rattle.script.specs.Calls.{offerOf}
 use Rattle.script.proofs.calls.offer_fields.Statement.{statement}

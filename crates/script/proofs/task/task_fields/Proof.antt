@@ -11,7 +11,7 @@ use Rattle.laws.proofs.Booleans.{was-false}
 use Rattle.text.specs.Fields.{areNumbers, FilledFromLine}
 use Rattle.text.proofs.FilledFromLine.{entry-is}
 use Rattle.script.specs.Numbers.{maxDigits, maxNumber}
-use Rattle.script.specs.Calls.{taskFields}
+use Rattle.script.specs.Calls.{fieldsTask, taskFields}
 use Rattle.script.specs.declared.task.TaskFields.the-variants.{Read, Bad}
 use Rattle.script.proofs.task.task_fields.Statement.{statement}
 use Rattle.script.proofs.task.task_fields.Tie as tie
@@ -23,7 +23,7 @@ no-task f e = rw e
 task-read :
     (f a : List ℕ) → FilledFromLine maxDigits maxNumber f (replicate 3 0) a true
     → Read (record { period = getD a 0 0; budget = getD a 1 0; deadline = getD a 2 0 }) ≡ taskFields f
-unfolding taskFields
+unfolding taskFields fieldsTask
 task-read f a n =
     let is = entry-is maxDigits maxNumber f (replicate 3 0) a n in
     rw (← n .is, ← is 0 (omega arith), ← is 1 (omega arith), ← is 2 (omega arith))

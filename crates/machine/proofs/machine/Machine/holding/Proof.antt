@@ -1,7 +1,6 @@
 -- `Machine::holding` meets its contract.
 use mathlib.Core.Path.{refl}
 use Rattle.machine.specs.Machine.{holding}
-use borrow.Author.Needs.{needs}
 use Rattle.machine.proofs.machine.Machine.holding.Statement.{statement}
 use Rattle.machine.proofs.machine.Machine.holding.Tie as tie
 

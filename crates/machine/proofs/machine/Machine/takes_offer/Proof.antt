@@ -1,12 +1,9 @@
 -- `Machine::takes_offer` meets its contract: an offer passes where its verdict admits the longer table.
 use mathlib.Core.Path.{_≡_, refl, sym, ap, _∙_}
 use mathlib.Core.Bool.{Bool, true, false, cond}
-use Rattle.laws.proofs.CaseSplits.{by-test}
-use Rattle.tasks.specs.declared.outcome.Outcome.{Outcome}
 use Rattle.tasks.specs.declared.outcome.Outcome.the-variants.{Done, Refused}
 use Rattle.tasks.specs.Refusals.{notAdmitted}
 use Rattle.tasks.specs.Outcome.{isDone}
-use Rattle.judge.specs.declared.admission.Admission.{Admission}
 use Rattle.judge.specs.SlackJudge.{admissionValuesOf}
 use Rattle.machine.proofs.OfferLaws.{refused-verdict, judged-verdict}
 use borrow.Author.Needs.{needs}
