@@ -97,17 +97,24 @@ returns-4 c =
 no-offer : (c : tie.Else2) → beginsWith offerWord (try-offer (c .before)) ≡ false
 no-offer c = sym (c .before .begins-with2 .ensures) ∙ c .if2 .left
 
+-- it is a commit, or no call
+is-commit : (l : List ℕ) → sameBytes l commitWord ≡ true → cond (sameBytes l commitWord) (Read Commit) Bad ≡ Read Commit
+is-commit l e = rw e
+
+no-commit : (l : List ℕ) → sameBytes l commitWord ≡ false → cond (sameBytes l commitWord) (Read Commit) Bad ≡ Bad
+no-commit l e = rw e
+
 returns-5 : tie.Need-returns-5
 returns-5 c =
     let d = c .before .before .before in
     let e = past-release (d .before) in
-    sym (others (past-finish (e .before)) ∙ rw (no-release e, no-offer d, sym (c .before .same .ensures) ∙ c .if3 .taken))
+    sym (others (past-finish (e .before)) ∙ rw (no-release e, no-offer d) (is-commit _ (sym (c .before .same .ensures) ∙ c .if3 .taken)))
 
 returns-6 : tie.Need-returns-6
 returns-6 c =
     let d = c .before .before .before in
     let e = past-release (d .before) in
-    sym (others (past-finish (e .before)) ∙ rw (no-release e, no-offer d, sym (c .before .same .ensures) ∙ c .if3 .left))
+    sym (others (past-finish (e .before)) ∙ rw (no-release e, no-offer d) (no-commit _ (sym (c .before .same .ensures) ∙ c .if3 .left)))
 
 pub call-line-spec : {M : Type 1} → statement M
 call-line-spec =
