@@ -1,5 +1,6 @@
-//! Measures the proved library against plain Rust and plain C, side by side. With a number of
-//! tasks it only makes the calls, once each, so that another program can count their instructions.
+//! Measures the proved library against plain Rust and plain C, side by side, and what a held
+//! task costs. With a number of tasks it only makes the calls of verdicts, once each, so that
+//! another program can count their instructions.
 
 mod offers;
 mod plain;

@@ -5,8 +5,8 @@ use tasks::task::Task;
 ghost use mathlib.Core.Path.{_≡_};
 ghost use Rattle.machine.specs.Calls.{step};
 
-// Release and Finish name a task by its number, from 1; Release also the slots that the job will need, and Slot the number of cores that it
-// has.
+// Release and Finish name a task by its number, from 1, and Release also the slots that the job will need; Slot names the number of cores that it has, and
+// Offer a task that is not in the table yet.
 pub enum Call {
     Release { number: u32, need: u32 },
     Finish(u32),
