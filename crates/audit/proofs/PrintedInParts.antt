@@ -1,4 +1,4 @@
--- What is printed after all parts of an input is what the definition gives for the whole of it: `printed-in-parts`. The first part is full, and then it tells
+-- What is printed after all parts of an input is what the definition gives for the whole of it: `printed_in_parts`. The first part is full, and then it tells
 -- the first line and where the table ends, or that one of the two is too long; or it is the whole input.
 use Prim.Native.Nat.{ℕ, ◌+◌, ◌^◌, ◌≤◌, ◌<◌}
 use native.Mathlib.Omega.{arith}
@@ -7,81 +7,81 @@ use mathlib.Core.Logic.{◌⊎◌, inl, inr, ⊎_elim}
 use mathlib.Core.Bool.{true, false}
 use mathlib.Core.List.{List, [], ◌∷◌, ◌++◌, append-nil}
 use lib.ListN.{length, length-append}
-use Rattle.laws.proofs.CaseSplits.{by-test}
-use Rattle.text.specs.Lines.{lineEnd, has, before, after}
-use Rattle.text.specs.Number.{numberAfter}
+use Rattle.laws.proofs.CaseSplits.{by_test}
+use Rattle.text.specs.Lines.{line_end, has, before, after}
+use Rattle.text.specs.Number.{number_after}
 use Rattle.text.specs.declared.number.Number.{Number}
 use Rattle.text.specs.declared.number.Number.TheVariants.{Read, Broken}
-use Rattle.text.proofs.Split.{here, has-append}
-use Rattle.text.proofs.Lengths.{after-short}
-use Rattle.text.proofs.Appended.{before-kept, after_kept, before_more}
-use Rattle.script.specs.Numbers.{maxDigits, maxNumber}
-use Rattle.script.specs.Words.{coresWord}
-use Rattle.script.specs.Output.{badLine}
+use Rattle.text.proofs.Split.{here, has_append}
+use Rattle.text.proofs.Lengths.{after_short}
+use Rattle.text.proofs.Appended.{before_kept, after_kept, before_more}
+use Rattle.script.specs.Numbers.{max_digits, max_number}
+use Rattle.script.specs.Words.{cores_word}
+use Rattle.script.specs.Output.{bad_line}
 use Rattle.auditing.specs.Auditor.{whole}
-use Rattle.audit.specs.Printed.{printedAfterFirst, printed}
-use Rattle.audit.specs.Opening.{openedAfterFirst, opened, partRoom, PrintedInParts}
-use Rattle.audit.proofs.LineAfter.{lineAfter, parts-after, bad-after}
-use Rattle.audit.proofs.AfterCores.{enoughText, cores-after}
+use Rattle.audit.specs.Printed.{printed_after_first, printed}
+use Rattle.audit.specs.Opening.{opened_after_first, opened, part_room, PrintedInParts}
+use Rattle.audit.proofs.LineAfter.{line_after, parts_after, bad_after}
+use Rattle.audit.proofs.AfterCores.{enough_text, cores_after}
 
 -- the number of a first line
-abbrev coresOn : List ℕ → Number
-coresOn line = numberAfter maxDigits maxNumber coresWord line
+abbrev cores_on : List ℕ → Number
+cores_on line = number_after max_digits max_number cores_word line
 
-module _ (first rest : List ℕ) (full : (partRoom ≤ length first) ⊎ (rest ≡ [])) where
+module _ (first rest : List ℕ) (full : (part_room ≤ length first) ⊎ (rest ≡ [])) where
   -- the first line ends in the first part
-  module _ (ended : has lineEnd first ≡ true) (small : length (first ++ rest) < 2 ^ 64) where
-    bytes : length first ≡ length (before lineEnd first) + 1 + length (after lineEnd first)
+  module _ (ended : has line_end first ≡ true) (small : length (first ++ rest) < 2 ^ 64) where
+    bytes : length first ≡ length (before line_end first) + 1 + length (after line_end first)
     bytes =
-        omega (arith, ap length (here lineEnd first ended).whole, length-append (before lineEnd first) (lineEnd ∷ after lineEnd first))
+        omega (arith, ap length (here line_end first ended).whole, length-append (before line_end first) (line_end ∷ after line_end first))
 
     by_number :
-        (number : Number) → coresOn (before lineEnd first) ≡ number
-        → lineAfter (openedAfterFirst number (after lineEnd first)) rest ≡ printedAfterFirst number (after lineEnd first ++ rest)
-    unfolding openedAfterFirst printedAfterFirst
+        (number : Number) → cores_on (before line_end first) ≡ number
+        → line_after (opened_after_first number (after line_end first)) rest ≡ printed_after_first number (after line_end first ++ rest)
+    unfolding opened_after_first printed_after_first
     by_number (Read cores) e =
-        let text = after lineEnd first in
-        let short = after-short maxDigits maxNumber coresWord (before lineEnd first) cores e in
-        let enough : (enoughText ≤ length text) ⊎ (rest ≡ []) = ⊎_elim (λ h. inl (omega (arith, bytes))) inr full in
-        cores-after text rest cores (omega (arith, bytes, length-append first rest, length-append text rest)) enough
-    by_number Broken e = bad-after rest 1 (omega arith)
+        let text = after line_end first in
+        let short = after_short max_digits max_number cores_word (before line_end first) cores e in
+        let enough : (enough_text ≤ length text) ⊎ (rest ≡ []) = ⊎_elim (λ h. inl (omega (arith, bytes))) inr full in
+        cores_after text rest cores (omega (arith, bytes, length-append first rest, length-append text rest)) enough
+    by_number Broken e = bad_after rest 1 (omega arith)
 
-    first_ended : lineAfter (opened first) rest ≡ printed (first ++ rest)
+    first_ended : line_after (opened first) rest ≡ printed (first ++ rest)
     unfolding opened printed
     first_ended =
-        rw (ended, has-append lineEnd first rest, ended, before-kept lineEnd first rest ended, after_kept lineEnd first rest ended)
-        (by_number (coresOn (before lineEnd first)) refl)
+        rw (ended, has_append line_end first rest, ended, before_kept line_end first rest ended, after_kept line_end first rest ended)
+        (by_number (cores_on (before line_end first)) refl)
 
   -- it does not: then it is not ended at all, or it is too long to be `CORES m`
-  module _ (open-end : has lineEnd first ≡ false) where
-    long-number :
-        partRoom ≤ length first → (number : Number) → coresOn (before lineEnd (first ++ rest)) ≡ number
-        → printedAfterFirst number (after lineEnd (first ++ rest)) ≡ badLine 1
-    unfolding printedAfterFirst
-    long-number h (Read cores) e =
-        let short = after-short maxDigits maxNumber coresWord (before lineEnd (first ++ rest)) cores e in
-        let line : length (before lineEnd (first ++ rest)) ≡ length (first ++ before lineEnd rest) = ap length (before_more lineEnd first rest open-end) in
-        absurd (omega (arith, length-append first (before lineEnd rest)))
-    long-number h Broken e = refl
+  module _ (open-end : has line_end first ≡ false) where
+    long_number :
+        part_room ≤ length first → (number : Number) → cores_on (before line_end (first ++ rest)) ≡ number
+        → printed_after_first number (after line_end (first ++ rest)) ≡ bad_line 1
+    unfolding printed_after_first
+    long_number h (Read cores) e =
+        let short = after_short max_digits max_number cores_word (before line_end (first ++ rest)) cores e in
+        let line : length (before line_end (first ++ rest)) ≡ length (first ++ before line_end rest) = ap length (before_more line_end first rest open-end) in
+        absurd (omega (arith, length-append first (before line_end rest)))
+    long_number h Broken e = refl
 
-    long-line : partRoom ≤ length first → printed (first ++ rest) ≡ badLine 1
+    long_line : part_room ≤ length first → printed (first ++ rest) ≡ bad_line 1
     unfolding printed
-    long-line h =
-        by-test (has lineEnd (first ++ rest))
-        (λ t. rw t (long-number h (coresOn (before lineEnd (first ++ rest))) refl))
+    long_line h =
+        by_test (has line_end (first ++ rest))
+        (λ t. rw t (long_number h (cores_on (before line_end (first ++ rest))) refl))
         (λ f. rw f)
 
-    only-line : rest ≡ [] → printed (first ++ rest) ≡ badLine 1
+    only_line : rest ≡ [] → printed (first ++ rest) ≡ bad_line 1
     unfolding printed
-    only-line none = rw (none, append-nil first, open-end)
+    only_line none = rw (none, append-nil first, open-end)
 
-    first-open : lineAfter (opened first) rest ≡ printed (first ++ rest)
+    first_open : line_after (opened first) rest ≡ printed (first ++ rest)
     unfolding opened
-    first-open = rw open-end (bad-after rest 1 (omega arith) ∙ sym (⊎_elim long-line only-line full))
+    first_open = rw open-end (bad_after rest 1 (omega arith) ∙ sym (⊎_elim long_line only_line full))
 
-  opened_after : length (first ++ rest) < 2 ^ 64 → lineAfter (opened first) rest ≡ printed (first ++ rest)
-  opened_after small = by-test (has lineEnd first) (λ t. first_ended t small) first-open
+  opened_after : length (first ++ rest) < 2 ^ 64 → line_after (opened first) rest ≡ printed (first ++ rest)
+  opened_after small = by_test (has line_end first) (λ t. first_ended t small) first_open
 
-pub printed-in-parts : PrintedInParts
+pub printed_in_parts : PrintedInParts
 unfolding PrintedInParts
-printed-in-parts first parts full small = parts-after parts (opened first) ∙ opened_after first (whole parts) full small
+printed_in_parts first parts full small = parts_after parts (opened first) ∙ opened_after first (whole parts) full small

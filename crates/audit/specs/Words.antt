@@ -2,13 +2,13 @@
 use Rattle.std.specs.Prelude.{ℕ, List, [], ◌∷◌}
 
 -- "LOG", a line of its own
-abbrev pub logWord : List ℕ
-logWord = 76 ∷ 79 ∷ 71 ∷ []
+abbrev pub log_word : List ℕ
+log_word = 76 ∷ 79 ∷ 71 ∷ []
 
 -- "ACCEPTED", a line of its own
-abbrev pub acceptedWord : List ℕ
-acceptedWord = 65 ∷ 67 ∷ 67 ∷ 69 ∷ 80 ∷ 84 ∷ 69 ∷ 68 ∷ []
+abbrev pub accepted_word : List ℕ
+accepted_word = 65 ∷ 67 ∷ 67 ∷ 69 ∷ 80 ∷ 84 ∷ 69 ∷ 68 ∷ []
 
 -- "OFFENDS" with its space, before n
-abbrev pub offendsWord : List ℕ
-offendsWord = 79 ∷ 70 ∷ 70 ∷ 69 ∷ 78 ∷ 68 ∷ 83 ∷ 32 ∷ []
+abbrev pub offends_word : List ℕ
+offends_word = 79 ∷ 70 ∷ 70 ∷ 69 ∷ 78 ∷ 68 ∷ 83 ∷ 32 ∷ []

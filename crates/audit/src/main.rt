@@ -9,14 +9,14 @@ mod opening;
 ghost use Rattle.std.specs.Prelude.{◌≤◌, length};
 ghost use Rattle.text.specs.Output.{Holds};
 ghost use Rattle.script.specs.Output.{PutWithin};
-ghost use Rattle.auditing.specs.Audit.{auditValuesOf};
-ghost use Rattle.audit.specs.Printed.{auditLine};
-ghost use Rattle.audit.specs.Opening.{openingLine, printedRoom};
+ghost use Rattle.auditing.specs.Audit.{audit_values_of};
+ghost use Rattle.audit.specs.Printed.{audit_line};
+ghost use Rattle.audit.specs.Opening.{opening_line, printed_room};
 
 // Bytes of the input that are read at a time.
 const PART_ROOM: usize = 65_536;
 
-// Room for what is printed, in contracts `printedRoom`.
+// Room for what is printed, in contracts `printed_room`.
 const PRINTED_ROOM: usize = 40;
 
 // The most parts that are read.
@@ -24,7 +24,7 @@ const MAX_PARTS: u64 = 18_446_744_073_709_551_615;
 
 // Puts the line of an audit.
 fn put_audit(output: &mut [u8], used: usize, audit: Audit) -> usize
-    ensures { PutWithin printedRoom output.old used (auditLine (auditValuesOf audit)) output.new result }
+    ensures { PutWithin printed_room output.old used (audit_line (audit_values_of audit)) output.new result }
 {
     match audit {
         Audit::Accepted => put(output, used, b"ACCEPTED\n"),
@@ -43,8 +43,8 @@ fn put_audit(output: &mut [u8], used: usize, audit: Audit) -> usize
 
 // Puts what is printed at the start of the output: how many bytes it is.
 fn put_line(output: &mut [u8], opening: Opening) -> usize
-    requires { printedRoom ≤ length output.old }
-    ensures { Holds (openingLine opening) output.new result }
+    requires { printed_room ≤ length output.old }
+    ensures { Holds (opening_line opening) output.new result }
 {
     if 0 < opening.bad {
         return put_bad_line(output, 0, opening.bad);

@@ -1,7 +1,7 @@
 // What stands before a log: the line CORES m, the table, and the line LOG.
 ghost use Rattle.std.specs.Prelude.{◌≡◌, not};
-ghost use Rattle.auditing.specs.Auditor.{goesOn};
-ghost use Rattle.audit.specs.Opening.{badOpening, goodOpening, openedFor, opened, goesOnWith};
+ghost use Rattle.auditing.specs.Auditor.{goes_on};
+ghost use Rattle.audit.specs.Opening.{bad_opening, good_opening, opened_for, opened, goes_on_with};
 
 use auditing::auditor::Auditor;
 use script::calls::{MAX_DIGITS, MAX_NUMBER};
@@ -22,7 +22,7 @@ pub struct Opening {
 impl Opening {
     // An input whose line of this number is bad; its auditor plays no part.
     fn bad_line(line: usize) -> Self
-        ensures { result ≡ badOpening line }
+        ensures { result ≡ bad_opening line }
     {
         let auditor = Auditor::refused(0, 0);
         Opening { bad: line, auditor }
@@ -30,14 +30,14 @@ impl Opening {
 
     // An input with this auditor.
     fn good(auditor: Auditor) -> Self
-        ensures { result ≡ goodOpening auditor }
+        ensures { result ≡ good_opening auditor }
     {
         Opening { bad: 0, auditor }
     }
 
     // Whether nothing that follows can change what is printed.
     pub fn is_decided(self) -> bool
-        ensures { result ≡ not (goesOn self.auditor.answer) }
+        ensures { result ≡ not (goes_on self.auditor.answer) }
     {
         let auditor = self.auditor;
         !auditor.goes_on()
@@ -45,7 +45,7 @@ impl Opening {
 
     // After the next part of the log.
     pub fn feed(self, part: &[u8]) -> Self
-        ensures { result ≡ goesOnWith self part.now }
+        ensures { result ≡ goes_on_with self part.now }
     {
         let before = self.auditor;
         let auditor = before.feed(part);
@@ -58,7 +58,7 @@ impl Opening {
 
 // The text of a table, the cores, and the log's first part.
 fn open_table(text: &[u8], cores: u32, log: &[u8]) -> Opening
-    ensures { result ≡ openedFor text.now cores log.now }
+    ensures { result ≡ opened_for text.now cores log.now }
 {
     let reading = reader::read(text);
     let outcome = reading.outcome;

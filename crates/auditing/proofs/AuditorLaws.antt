@@ -1,7 +1,7 @@
--- The auditor's answer, its lines and its feeding, one law for each outcome. Others cite: `was-found`, and by what the auditor has found `answer-found`,
--- `answer-unended`, `answer-nameless` and `answer-accepted`; by the line that is ended `value_line`, `value-broken`, `value-offends`, `value_taken`,
--- `names-broken` and `names-read`; by the next byte `byte-ends`, `byte-kept` and `byte-dropped`; `fed-next`, one byte of a part; `fed-found`, that past an
--- answer nothing changes it; and `fed-whole`, that parts are fed one after the other.
+-- The auditor's answer, its lines and its feeding, one law for each outcome. Others cite: `was_found`, and by what the auditor has found `answer_found`,
+-- `answer_unended`, `answer_nameless` and `answer_accepted`; by the line that is ended `value_line`, `value_broken`, `value_offends`, `value_taken`,
+-- `names_broken` and `names_read`; by the next byte `byte_ends`, `byte_kept` and `byte_dropped`; `fed_next`, one byte of a part; `fed_found`, that past an
+-- answer nothing changes it; and `fed_whole`, that parts are fed one after the other.
 use Prim.Native.Nat.{ℕ, ◌+◌, ◌≤◌, ◌<◌}
 use mathlib.Core.Path.{◌≡◌, refl, sym, ◌∙◌}
 use native.Mathlib.Omega.{arith}
@@ -14,104 +14,104 @@ use lib.ListN.{length, get_or, set, drop}
 use lib.Seq.{drop-cons}
 use types.Run.{OneOf}
 use denote.Enum.Declared.{tag_of}
-use Rattle.text.specs.Lines.{lineEnd}
-use Rattle.tasks.specs.Refusals.{badLogLine}
-use Rattle.auditing.specs.Log.{isNamesLine, isValueLine, values_of}
-use Rattle.auditing.specs.Line.{lineTaken, afterLine}
-use Rattle.auditing.specs.Auditor.{lineRoom, goesOn, withByte, keptLine, onNextLine, endedBy, afterValueLine, withLine}
-use Rattle.auditing.specs.Auditor.{fedByte, fed, answer_of, fedParts, whole}
+use Rattle.text.specs.Lines.{line_end}
+use Rattle.tasks.specs.Refusals.{bad_log_line}
+use Rattle.auditing.specs.Log.{is_names_line, is_value_line, values_of}
+use Rattle.auditing.specs.Line.{line_taken, after_line}
+use Rattle.auditing.specs.Auditor.{line_room, goes_on, with_byte, kept_line, on_next_line, ended_by, after_value_line, with_line}
+use Rattle.auditing.specs.Auditor.{fed_byte, fed, answer_of, fed_parts, whole}
 use Rattle.auditing.specs.declared.auditor.Audit.{Audit}
 use Rattle.auditing.specs.declared.auditor.Audit.TheVariants.{Accepted, Offends, Refused}
 use Rattle.auditing.specs.contracts.auditor.Audit.{the_type}
 use Rattle.auditing.specs.declared.auditor.Auditor.{Auditor}
 
 -- an answer that is not the first of the three was found: their tags are 0 to 2
-pub was-found : (answer : Audit) → OneOf (1 ∷ 2 ∷ []) (tag_of the_type answer) → goesOn answer ≡ false
-unfolding goesOn
-was-found Accepted h = absurd (⊎_elim (λ e. omega (arith, e)) (λ e. omega (arith, e)) h)
-was-found (Offends line) h = refl
-was-found (Refused number place) h = refl
+pub was_found : (answer : Audit) → OneOf (1 ∷ 2 ∷ []) (tag_of the_type answer) → goes_on answer ≡ false
+unfolding goes_on
+was_found Accepted h = absurd (⊎_elim (λ e. omega (arith, e)) (λ e. omega (arith, e)) h)
+was_found (Offends line) h = refl
+was_found (Refused number place) h = refl
 
 module _ (a : Auditor) where
-  pub answer-found : goesOn a.answer ≡ false → answer_of a ≡ a.answer
+  pub answer_found : goes_on a.answer ≡ false → answer_of a ≡ a.answer
   unfolding answer_of
-  answer-found e = rw e
+  answer_found e = rw e
 
   module _ (on : a.answer ≡ Accepted) where
-    pub answer-unended : 0 < a.used → answer_of a ≡ Refused badLogLine a.line
-    unfolding answer_of goesOn
-    answer-unended h = rw (on, lt-ltb 0 a.used h)
+    pub answer_unended : 0 < a.used → answer_of a ≡ Refused bad_log_line a.line
+    unfolding answer_of goes_on
+    answer_unended h = rw (on, lt-ltb 0 a.used h)
 
-    pub answer-nameless : a.used ≡ 0 → a.line ≡ 0 → answer_of a ≡ Refused badLogLine 0
-    unfolding answer_of goesOn
-    answer-nameless u e = rw (on, u, e)
+    pub answer_nameless : a.used ≡ 0 → a.line ≡ 0 → answer_of a ≡ Refused bad_log_line 0
+    unfolding answer_of goes_on
+    answer_nameless u e = rw (on, u, e)
 
-    pub answer-accepted : a.used ≡ 0 → (a.line ≡ 0 → ⊥) → answer_of a ≡ Accepted
-    unfolding answer_of goesOn
-    answer-accepted u ne = rw (on, u, ne_eqb a.line 0 ne)
+    pub answer_accepted : a.used ≡ 0 → (a.line ≡ 0 → ⊥) → answer_of a ≡ Accepted
+    unfolding answer_of goes_on
+    answer_accepted u ne = rw (on, u, ne_eqb a.line 0 ne)
 
   module _ (l : List ℕ) where
-    pub value-broken : isValueLine l ≡ false → afterValueLine a l ≡ endedBy a (Refused badLogLine a.line)
-    unfolding afterValueLine
-    value-broken e = rw e
+    pub value_broken : is_value_line l ≡ false → after_value_line a l ≡ ended_by a (Refused bad_log_line a.line)
+    unfolding after_value_line
+    value_broken e = rw e
 
-    pub value-offends : isValueLine l ≡ true → lineTaken a.machine (values_of l) ≡ false → afterValueLine a l ≡ endedBy a (Offends a.line)
-    unfolding afterValueLine
-    value-offends e f = rw (e, f)
+    pub value_offends : is_value_line l ≡ true → line_taken a.machine (values_of l) ≡ false → after_value_line a l ≡ ended_by a (Offends a.line)
+    unfolding after_value_line
+    value_offends e f = rw (e, f)
 
     pub value_taken :
-        isValueLine l ≡ true → lineTaken a.machine (values_of l) ≡ true → afterValueLine a l ≡ onNextLine a (afterLine a.machine (values_of l))
-    unfolding afterValueLine
+        is_value_line l ≡ true → line_taken a.machine (values_of l) ≡ true → after_value_line a l ≡ on_next_line a (after_line a.machine (values_of l))
+    unfolding after_value_line
     value_taken e f = rw (e, f)
 
-    pub value_line : 0 < a.line → withLine a l ≡ afterValueLine a l
-    unfolding withLine
+    pub value_line : 0 < a.line → with_line a l ≡ after_value_line a l
+    unfolding with_line
     value_line h = rw (ne_eqb a.line 0 (λ e. omega arith))
 
-    pub names-broken : a.line ≡ 0 → isNamesLine l ≡ false → withLine a l ≡ endedBy a (Refused badLogLine 0)
-    unfolding withLine
-    names-broken e f = rw (eq-eqb a.line 0 e, f)
+    pub names_broken : a.line ≡ 0 → is_names_line l ≡ false → with_line a l ≡ ended_by a (Refused bad_log_line 0)
+    unfolding with_line
+    names_broken e f = rw (eq-eqb a.line 0 e, f)
 
-    pub names-read : a.line ≡ 0 → isNamesLine l ≡ true → withLine a l ≡ onNextLine a a.machine
-    unfolding withLine
-    names-read e f = rw (eq-eqb a.line 0 e, f)
+    pub names_read : a.line ≡ 0 → is_names_line l ≡ true → with_line a l ≡ on_next_line a a.machine
+    unfolding with_line
+    names_read e f = rw (eq-eqb a.line 0 e, f)
 
   -- one byte more
-  pub fed-next : (s : List ℕ) (i : ℕ) → i < length s → fed a (drop i s) ≡ fed (fedByte a (get_or s i 0)) (drop (i + 1) s)
+  pub fed_next : (s : List ℕ) (i : ℕ) → i < length s → fed a (drop i s) ≡ fed (fed_byte a (get_or s i 0)) (drop (i + 1) s)
   unfolding fed
-  fed-next s i h = rw (drop-cons s i 0 h, add-one i)
+  fed_next s i h = rw (drop-cons s i 0 h, add-one i)
 
   module _ (on : a.answer ≡ Accepted) (byte : ℕ) where
-    goes_on : goesOn a.answer ≡ true
-    unfolding goesOn
-    goes_on = rw on
+    goes_on_lem : goes_on a.answer ≡ true
+    unfolding goes_on
+    goes_on_lem = rw on
 
-    pub byte-ends : byte ≡ lineEnd → fedByte a byte ≡ withLine a (keptLine a)
-    unfolding fedByte
-    byte-ends e = rw (goes_on, eq-eqb byte lineEnd e)
+    pub byte_ends : byte ≡ line_end → fed_byte a byte ≡ with_line a (kept_line a)
+    unfolding fed_byte
+    byte_ends e = rw (goes_on_lem, eq-eqb byte line_end e)
 
-    pub byte-kept :
-        (byte ≡ lineEnd → ⊥) → a.used < lineRoom
-        → fedByte a byte
+    pub byte_kept :
+        (byte ≡ line_end → ⊥) → a.used < line_room
+        → fed_byte a byte
         ≡ record { answer = a.answer; machine = a.machine; line = a.line; kept = set a.kept a.used byte; used = a.used + 1 }
-    unfolding fedByte withByte
-    byte-kept ne h = rw (goes_on, ne_eqb byte lineEnd ne, lt-ltb a.used lineRoom h)
+    unfolding fed_byte with_byte
+    byte_kept ne h = rw (goes_on_lem, ne_eqb byte line_end ne, lt-ltb a.used line_room h)
 
-    pub byte-dropped : (byte ≡ lineEnd → ⊥) → lineRoom ≤ a.used → fedByte a byte ≡ a
-    unfolding fedByte withByte
-    byte-dropped ne h = rw (goes_on, ne_eqb byte lineEnd ne, le-ltb a.used lineRoom h)
+    pub byte_dropped : (byte ≡ line_end → ⊥) → line_room ≤ a.used → fed_byte a byte ≡ a
+    unfolding fed_byte with_byte
+    byte_dropped ne h = rw (goes_on_lem, ne_eqb byte line_end ne, le-ltb a.used line_room h)
 
-  pub fed-found : (s : List ℕ) → goesOn a.answer ≡ false → fed a s ≡ a
-  unfolding fed fedByte
-  fed-found [] e = refl
-  fed-found (byte ∷ s) e = rw e (fed-found s e)
+  pub fed_found : (s : List ℕ) → goes_on a.answer ≡ false → fed a s ≡ a
+  unfolding fed fed_byte
+  fed_found [] e = refl
+  fed_found (byte ∷ s) e = rw e (fed_found s e)
 
-pub fed-append : (s t : List ℕ) (a : Auditor) → fed a (s ++ t) ≡ fed (fed a s) t
+pub fed_append : (s t : List ℕ) (a : Auditor) → fed a (s ++ t) ≡ fed (fed a s) t
 unfolding fed
-fed-append [] t a = refl
-fed-append (byte ∷ s) t a = fed-append s t (fedByte a byte)
+fed_append [] t a = refl
+fed_append (byte ∷ s) t a = fed_append s t (fed_byte a byte)
 
-pub fed-whole : (parts : List (List ℕ)) (a : Auditor) → fedParts a parts ≡ fed a (whole parts)
-unfolding fedParts whole fed
-fed-whole [] a = refl
-fed-whole (part ∷ parts) a = fed-whole parts (fed a part) ∙ sym (fed-append part (whole parts) a)
+pub fed_whole : (parts : List (List ℕ)) (a : Auditor) → fed_parts a parts ≡ fed a (whole parts)
+unfolding fed_parts whole fed
+fed_whole [] a = refl
+fed_whole (part ∷ parts) a = fed_whole parts (fed a part) ∙ sym (fed_append part (whole parts) a)

@@ -1,93 +1,93 @@
--- A line by its parts: releases, finishes and running. Others cite: `sound-before`, that a machine that takes a running is sound; `calls-parts` and
--- `before-parts`, the calls before the running as releases and then finishes; and for the code, which goes part by part, `release-refused`, `finish-refused`,
--- `running-refused` and `line-judged`.
+-- A line by its parts: releases, finishes and running. Others cite: `sound_before`, that a machine that takes a running is sound; `calls_parts` and
+-- `before_parts`, the calls before the running as releases and then finishes; and for the code, which goes part by part, `release_refused`, `finish_refused`,
+-- `running_refused` and `line_judged`.
 use Prim.Native.Nat.{ℕ}
 use mathlib.Core.Path.{◌≡◌, refl, sym, ap, ◌∙◌}
 use mathlib.Core.Bool.{Bool, true, false, ◌&&◌}
 use mathlib.Core.List.{List}
-use Rattle.laws.proofs.CaseSplits.{by-test, not-both}
+use Rattle.laws.proofs.CaseSplits.{by_test, not_both}
 use Rattle.tasks.specs.declared.outcome.Outcome.TheVariants.{Done, Refused}
-use Rattle.tasks.specs.Outcome.{isDone}
-use Rattle.tasks.specs.Flags.{flagsOf}
+use Rattle.tasks.specs.Outcome.{is_done}
+use Rattle.tasks.specs.Flags.{flags_of}
 use Rattle.machine.specs.Sound.{sound}
-use Rattle.machine.specs.Calls.{refuse, slotWith}
-use Rattle.machine.specs.Play.{machineAfter}
+use Rattle.machine.specs.Calls.{refuse, slot_with}
+use Rattle.machine.specs.Play.{machine_after}
 use Rattle.machine.specs.declared.machine.Machine.{Machine}
 use Rattle.machine.specs.declared.call.Call.{Call}
-use Rattle.auditing.specs.Line.{releaseAt, finishAt, callsFrom, lineCalls, allTaken, legalRun, beforeRunning, runningOf, lineTaken, afterLine}
+use Rattle.auditing.specs.Line.{release_at, finish_at, calls_from, line_calls, all_taken, legal_run, before_running, running_of, line_taken, after_line}
 use Rattle.auditing.specs.Parts.{TakesCalls, TakesLine}
 use Rattle.auditing.specs.declared.line.LogLine.{LogLine}
 use Rattle.auditing.specs.declared.judging.Taken.{Taken}
-use Rattle.auditing.proofs.CallsAppended.{taken-append, machine-append}
+use Rattle.auditing.proofs.CallsAppended.{taken_append, machine_append}
 
-pub sound-before : (m : Machine) (ran : List Bool) → isDone (slotWith m ran).outcome ≡ true → sound m ≡ true
-unfolding slotWith refuse isDone
-sound-before m ran e = by-test (sound m) (λ ok. ok) (λ bad. not-both false (rw bad at e) refl)
+pub sound_before : (m : Machine) (ran : List Bool) → is_done (slot_with m ran).outcome ≡ true → sound m ≡ true
+unfolding slot_with refuse is_done
+sound_before m ran e = by_test (sound m) (λ ok. ok) (λ bad. not_both false (rw bad at e) refl)
 
 -- the releases and the finishes of a line, and the machine between them
-abbrev pub releasesOf : Machine → LogLine → List Call
-releasesOf m line = callsFrom (releaseAt m.table) 0 (flagsOf line.released)
+abbrev pub releases_of : Machine → LogLine → List Call
+releases_of m line = calls_from (release_at m.table) 0 (flags_of line.released)
 
-abbrev pub finishesOf : LogLine → List Call
-finishesOf line = callsFrom finishAt 0 (flagsOf line.finished)
+abbrev pub finishes_of : LogLine → List Call
+finishes_of line = calls_from finish_at 0 (flags_of line.finished)
 
 abbrev pub between : Machine → LogLine → Machine
-between m line = machineAfter m (releasesOf m line)
+between m line = machine_after m (releases_of m line)
 
 module _ (m : Machine) (line : LogLine) where
-  pub calls-parts : allTaken m (lineCalls m.table line) ≡ (allTaken m (releasesOf m line) && allTaken (between m line) (finishesOf line))
-  unfolding lineCalls
-  calls-parts = taken-append m (releasesOf m line) (finishesOf line)
+  pub calls_parts : all_taken m (line_calls m.table line) ≡ (all_taken m (releases_of m line) && all_taken (between m line) (finishes_of line))
+  unfolding line_calls
+  calls_parts = taken_append m (releases_of m line) (finishes_of line)
 
-  pub before-parts : beforeRunning m line ≡ machineAfter (between m line) (finishesOf line)
-  unfolding beforeRunning lineCalls
-  before-parts = machine-append m (releasesOf m line) (finishesOf line)
+  pub before_parts : before_running m line ≡ machine_after (between m line) (finishes_of line)
+  unfolding before_running line_calls
+  before_parts = machine_append m (releases_of m line) (finishes_of line)
 
   abbrev ran : List Bool
-  ran = flagsOf line.ran
+  ran = flags_of line.ran
 
   -- a line that is not taken
-  refused : (r : Taken) → r.all ≡ false → lineTaken m line ≡ false → TakesLine m line r
-  refused r none no_way = record { all-is = none ∙ sym no_way; machine-is = λ all. not-both (lineTaken m line) all no_way }
+  refused : (r : Taken) → r.all ≡ false → line_taken m line ≡ false → TakesLine m line r
+  refused r none no_way = record { all_is = none ∙ sym no_way; machine_is = λ all. not_both (line_taken m line) all no_way }
 
-  no-calls : allTaken m (lineCalls m.table line) ≡ false → lineTaken m line ≡ false
-  unfolding lineTaken
-  no-calls e = rw e
+  no_calls : all_taken m (line_calls m.table line) ≡ false → line_taken m line ≡ false
+  unfolding line_taken
+  no_calls e = rw e
 
-  module _ (r : Taken) (released : TakesCalls m (releasesOf m line) r) where
-    pub release-refused : r.all ≡ false → TakesLine m line r
-    release-refused none = refused r none (no-calls (calls-parts ∙ rw (← released.all-is, none)))
+  module _ (r : Taken) (released : TakesCalls m (releases_of m line) r) where
+    pub release_refused : r.all ≡ false → TakesLine m line r
+    release_refused none = refused r none (no_calls (calls_parts ∙ rw (← released.all_is, none)))
 
-    module _ (all-released : r.all ≡ true) where
-      releases-taken : allTaken m (releasesOf m line) ≡ true
-      releases-taken = sym released.all-is ∙ all-released
+    module _ (all_released_lem : r.all ≡ true) where
+      releases_taken : all_taken m (releases_of m line) ≡ true
+      releases_taken = sym released.all_is ∙ all_released_lem
 
-      machine-is : r.machine ≡ between m line
-      machine-is = released.machine-is releases-taken
+      machine_is : r.machine ≡ between m line
+      machine_is = released.machine_is releases_taken
 
-      module _ (f : Taken) (finished : TakesCalls r.machine (finishesOf line) f) where
-        calls_are : allTaken m (lineCalls m.table line) ≡ f.all
-        calls_are = calls-parts ∙ rw (releases-taken, ← machine-is) (sym finished.all-is)
+      module _ (f : Taken) (finished : TakesCalls r.machine (finishes_of line) f) where
+        calls_are : all_taken m (line_calls m.table line) ≡ f.all
+        calls_are = calls_parts ∙ rw (releases_taken, ← machine_is) (sym finished.all_is)
 
-        pub finish-refused : f.all ≡ false → TakesLine m line f
-        finish-refused none = refused f none (no-calls (calls_are ∙ none))
+        pub finish_refused : f.all ≡ false → TakesLine m line f
+        finish_refused none = refused f none (no_calls (calls_are ∙ none))
 
         module _ (all_finished : f.all ≡ true) where
-          before-is : beforeRunning m line ≡ f.machine
-          before-is = before-parts ∙ rw (← machine-is) (sym (finished.machine-is (sym finished.all-is ∙ all_finished)))
+          before_is : before_running m line ≡ f.machine
+          before_is = before_parts ∙ rw (← machine_is) (sym (finished.machine_is (sym finished.all_is ∙ all_finished)))
 
-          taken_is : lineTaken m line ≡ (isDone (slotWith f.machine ran).outcome && legalRun f.machine ran)
-          unfolding lineTaken runningOf
-          taken_is = rw (calls_are, all_finished, before-is)
+          taken_is : line_taken m line ≡ (is_done (slot_with f.machine ran).outcome && legal_run f.machine ran)
+          unfolding line_taken running_of
+          taken_is = rw (calls_are, all_finished, before_is)
 
-          pub running-refused :
-              (number place : ℕ) → (slotWith f.machine ran).outcome ≡ Refused number place
+          pub running_refused :
+              (number place : ℕ) → (slot_with f.machine ran).outcome ≡ Refused number place
               → TakesLine m line (record { machine = f.machine; all = false })
-          unfolding isDone
-          running-refused number place told = refused _ refl (taken_is ∙ rw told)
+          unfolding is_done
+          running_refused number place told = refused _ refl (taken_is ∙ rw told)
 
-          pub line-judged :
-              (slotWith f.machine ran).outcome ≡ Done
-              → TakesLine m line (record { machine = (slotWith f.machine ran).machine; all = legalRun f.machine ran })
-          unfolding isDone afterLine runningOf
-          line-judged told = record { all-is = sym (taken_is ∙ rw told); machine-is = λ all. ap (λ (b : Machine). (slotWith b ran).machine) (sym before-is) }
+          pub line_judged :
+              (slot_with f.machine ran).outcome ≡ Done
+              → TakesLine m line (record { machine = (slot_with f.machine ran).machine; all = legal_run f.machine ran })
+          unfolding is_done after_line running_of
+          line_judged told = record { all_is = sym (taken_is ∙ rw told); machine_is = λ all. ap (λ (b : Machine). (slot_with b ran).machine) (sym before_is) }

@@ -1,43 +1,43 @@
 -- An accepted slot of the machine that a log is of, and its line on the machine that audits the log: the line has values of 32 bits (`line_small`), is taken
--- (`line_taken`), and after it the two machines stand beside each other with nothing released or finished (`beside-slot`).
+-- (`line_taken_lem`), and after it the two machines stand beside each other with nothing released or finished (`beside_slot`).
 use Prim.Native.Nat.{ℕ, ◌^◌, ◌≤◌, ◌<◌}
 use native.Mathlib.Omega.{arith}
 use mathlib.Core.Path.{◌≡◌, refl, sym, ap, ◌∙◌}
 use mathlib.Core.Bool.{Bool, true, false}
 use mathlib.Core.List.{List, ◌++◌}
 use lib.ListN.{length, get_or}
-use Rattle.laws.proofs.Replaced.{length-replaced}
+use Rattle.laws.proofs.Replaced.{length_replaced}
 use Rattle.tasks.specs.declared.table.Table.{Table}
 use Rattle.tasks.specs.declared.outcome.Outcome.TheVariants.{Done}
-use Rattle.tasks.specs.Limits.{maxTasks}
-use Rattle.tasks.specs.Outcome.{isDone}
-use Rattle.tasks.specs.Flags.{mask, flagsOf}
+use Rattle.tasks.specs.Limits.{max_tasks}
+use Rattle.tasks.specs.Outcome.{is_done}
+use Rattle.tasks.specs.Flags.{mask, flags_of}
 use Rattle.tasks.proofs.MaskLaws.{mask_below}
-use Rattle.tasks.proofs.FlagsLaws.{flags-again}
+use Rattle.tasks.proofs.FlagsLaws.{flags_again}
 use Rattle.job.specs.Slot.{settled}
-use Rattle.machine.specs.Machine.{jobAt}
-use Rattle.machine.specs.Slot.{ranCount, passed, slotReport, afterSlot}
-use Rattle.machine.specs.Cores.{withAssigned}
+use Rattle.machine.specs.Machine.{job_at}
+use Rattle.machine.specs.Slot.{ran_count, passed, slot_report, after_slot}
+use Rattle.machine.specs.Cores.{with_assigned}
 use Rattle.machine.specs.Sound.{sound}
-use Rattle.machine.specs.Calls.{slotWith}
-use Rattle.machine.specs.Play.{machineAfter}
+use Rattle.machine.specs.Calls.{slot_with}
+use Rattle.machine.specs.Play.{machine_after}
 use Rattle.machine.specs.declared.machine.Machine.{Machine}
 use Rattle.machine.specs.declared.call.Call.{Call}
 use Rattle.machine.specs.declared.answer.Answer.{Answer}
 use Rattle.machine.proofs.CallCases.{SlotTaken}
 use Rattle.auditing.specs.Log.{max_value}
-use Rattle.auditing.specs.Line.{releaseAt, finishAt, callsFrom, lineCalls, allTaken, legalRun, beforeRunning, runningOf, lineTaken, afterLine}
-use Rattle.auditing.specs.OwnLog.{Since, nothingSince, ownLine}
+use Rattle.auditing.specs.Line.{release_at, finish_at, calls_from, line_calls, all_taken, legal_run, before_running, running_of, line_taken, after_line}
+use Rattle.auditing.specs.OwnLog.{Since, nothing_since, own_line}
 use Rattle.auditing.specs.declared.line.LogLine.{LogLine}
 use Rattle.auditing.proofs.OwnText.{Small}
-use Rattle.auditing.proofs.SoundRun.{inside-table, slot-made, assigned-job, running-with}
+use Rattle.auditing.proofs.SoundRun.{inside_table, slot_made, assigned_job, running_with}
 use Rattle.auditing.proofs.CallsReady.{LineMade, line_made}
-use Rattle.auditing.proofs.AllowedRun.{legal-run, legal-same}
-use Rattle.auditing.proofs.TheoryChoice.{choice-allowed}
-use Rattle.auditing.proofs.Beside.{Beside, beside-fresh}
+use Rattle.auditing.proofs.AllowedRun.{legal_run_lem, legal_same}
+use Rattle.auditing.proofs.TheoryChoice.{choice_allowed}
+use Rattle.auditing.proofs.Beside.{Beside, beside_fresh}
 
-mask-small : (named : List Bool) → length named ≡ maxTasks → mask named ≤ max_value
-mask-small named all = let below : mask named < 2 ^ 32 = rw all at (mask_below named) in omega arith
+mask_small : (named : List Bool) → length named ≡ max_tasks → mask named ≤ max_value
+mask_small named all = let below : mask named < 2 ^ 32 = rw all at (mask_below named) in omega arith
 
 module _
     (t : Table)
@@ -52,81 +52,81 @@ module _
   where
     -- the line, its calls before its running, and the machine after them
     abbrev line : LogLine
-    line = ownLine s (slotReport r ran assigned)
+    line = own_line s (slot_report r ran assigned)
 
     abbrev calls : List Call
-    calls = callsFrom (releaseAt t) 0 s.released ++ callsFrom finishAt 0 s.finished
+    calls = calls_from (release_at t) 0 s.released ++ calls_from finish_at 0 s.finished
 
     abbrev before : Machine
-    before = machineAfter a calls
+    before = machine_after a calls
 
     pub line_small : Small line
-    unfolding ownLine slotReport
+    unfolding own_line slot_report
     line_small =
         record {
-          released-small = mask-small s.released b.all-released;
-          finished-small = mask-small s.finished b.all_finished;
-          ran-small = mask-small ran taken.placed.all-tasks;
+          released_small = mask_small s.released b.all_released_lem;
+          finished_small = mask_small s.finished b.all_finished;
+          ran_small = mask_small ran taken.placed.all_tasks;
         }
 
-    calls_are : lineCalls a.table line ≡ calls
-    unfolding lineCalls ownLine
-    calls_are = rw (flags-again s.released b.all-released, flags-again s.finished b.all_finished, b.audit.table_is)
+    calls_are : line_calls a.table line ≡ calls
+    unfolding line_calls own_line
+    calls_are = rw (flags_again s.released b.all_released_lem, flags_again s.finished b.all_finished, b.audit.table_is)
 
-    before-is : beforeRunning a line ≡ before
-    unfolding beforeRunning
-    before-is = ap (machineAfter a) calls_are
+    before_is : before_running a line ≡ before
+    unfolding before_running
+    before_is = ap (machine_after a) calls_are
 
-    runners-are : flagsOf line.ran ≡ ran
-    unfolding ownLine slotReport
-    runners-are = flags-again ran taken.placed.all-tasks
+    runners_are : flags_of line.ran ≡ ran
+    unfolding own_line slot_report
+    runners_are = flags_again ran taken.placed.all_tasks
 
-    running-is : runningOf a line ≡ slotWith before ran
-    unfolding runningOf
-    running-is = rw (before-is, runners-are)
+    running_is : running_of a line ≡ slot_with before ran
+    unfolding running_of
+    running_is = rw (before_is, runners_are)
 
-    after_is : afterLine a line ≡ (slotWith before ran).machine
-    unfolding afterLine
-    after_is = ap (λ (answer : Answer). answer.machine) running-is
+    after_is : after_line a line ≡ (slot_with before ran).machine
+    unfolding after_line
+    after_is = ap (λ (answer : Answer). answer.machine) running_is
 
     made : LineMade t cores s.released s.finished a calls
     made = line_made t cores s.released s.finished a b.audit b.releases b.finishes
 
     -- before the running the two machines have the same jobs
-    same-jobs : (i : ℕ) → i < t.count → jobAt before i ≡ jobAt r i
-    same-jobs i h = made.jobs i ∙ sym (b.jobs i h)
+    same_jobs : (i : ℕ) → i < t.count → job_at before i ≡ job_at r i
+    same_jobs i h = made.jobs i ∙ sym (b.jobs i h)
 
-    legal : legalRun before ran ≡ true
-    unfolding ranCount
+    legal : legal_run before ran ≡ true
+    unfolding ran_count
     legal =
         let tables = made.running.table_is ∙ sym b.real.table_is in
-        let on = made.running.cores-are ∙ sym b.real.cores-are in
-        let few : ranCount r ran ≤ r.cores = omega (arith, taken.placed.few r.table.count, b.real.cores-are) in
-        legal-run before ran
-        (legal-same r before ran tables on (λ i h. same-jobs i (inside-table t cores r b.real i h))
-        (choice-allowed r ran taken.legal.choice few inside))
+        let on = made.running.cores_are_lem ∙ sym b.real.cores_are_lem in
+        let few : ran_count r ran ≤ r.cores = omega (arith, taken.placed.few r.table.count, b.real.cores_are_lem) in
+        legal_run_lem before ran
+        (legal_same r before ran tables on (λ i h. same_jobs i (inside_table t cores r b.real i h))
+        (choice_allowed r ran taken.legal.choice few inside))
 
-    pub line_taken : lineTaken a line ≡ true
-    unfolding lineTaken isDone
-    line_taken =
-        let all : allTaken a (lineCalls a.table line) ≡ true = rw calls_are made.taken in
-        let runs : (runningOf a line).outcome ≡ Done = rw running-is (slot-made t cores before made.running ran).accepted in
-        let goes : legalRun (beforeRunning a line) (flagsOf line.ran) ≡ true = rw (before-is, runners-are) legal in
+    pub line_taken_lem : line_taken a line ≡ true
+    unfolding line_taken is_done
+    line_taken_lem =
+        let all : all_taken a (line_calls a.table line) ≡ true = rw calls_are made.taken in
+        let runs : (running_of a line).outcome ≡ Done = rw running_is (slot_made t cores before made.running ran).accepted in
+        let goes : legal_run (before_running a line) (flags_of line.ran) ≡ true = rw (before_is, runners_are) legal in
         rw (all, runs, goes)
 
     same_after : (i : ℕ) → i < t.count → settled (passed r ran i) ≡ settled (passed before ran i)
     unfolding passed
-    same_after i h = rw (same-jobs i h)
+    same_after i h = rw (same_jobs i h)
 
-    pub beside-slot :
-        sound (withAssigned (afterSlot r ran) assigned) ≡ true
-        → Beside t cores (withAssigned (afterSlot r ran) assigned) (afterLine a line) nothingSince
-    unfolding withAssigned afterSlot
-    beside-slot ok =
-        let after = slot-made t cores before made.running ran in
-        let long = length-replaced (λ i. settled (passed r ran i)) r.jobs r.table.count in
+    pub beside_slot :
+        sound (with_assigned (after_slot r ran) assigned) ≡ true
+        → Beside t cores (with_assigned (after_slot r ran) assigned) (after_line a line) nothing_since
+    unfolding with_assigned after_slot
+    beside_slot ok =
+        let after = slot_made t cores before made.running ran in
+        let long = length_replaced (λ i. settled (passed r ran i)) r.jobs r.table.count in
         rw after_is
-        (beside-fresh t cores (withAssigned (afterSlot r ran) assigned) (slotWith before ran).machine
-        (running-with t cores r b.real (withAssigned (afterSlot r ran) assigned) ok refl refl long)
+        (beside_fresh t cores (with_assigned (after_slot r ran) assigned) (slot_with before ran).machine
+        (running_with t cores r b.real (with_assigned (after_slot r ran) assigned) ok refl refl long)
         after.running
-        (λ i h. assigned-job t cores r b.real ran assigned i h ∙ same_after i h ∙ sym (after.jobs i h)))
+        (λ i h. assigned_job t cores r b.real ran assigned i h ∙ same_after i h ∙ sym (after.jobs i h)))

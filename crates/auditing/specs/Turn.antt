@@ -1,8 +1,8 @@
 -- Which of two open jobs beats the other, as one number for each, and whether a flag stands past the table, for the code. Only contracts of private functions cite this file.
 use Rattle.std.specs.Prelude.{ℕ, zero, suc, ◌+◌, ◌-◌, Bool, true, false, cond, not, ◌&&◌, List, get_or}
-use Rattle.tasks.specs.Limits.{maxTasks}
+use Rattle.tasks.specs.Limits.{max_tasks}
 use Rattle.job.specs.declared.job.Job.{Job}
-use Rattle.job.specs.Job.{isUrgent}
+use Rattle.job.specs.Job.{is_urgent}
 
 -- what a job that is not urgent has more: 2^32, more than any left of 32 bits
 abbrev pub later : ℕ
@@ -14,13 +14,13 @@ never = 8_589_934_592
 
 -- the turn of a job: the smaller goes first
 unfoldable pub turn : Job → ℕ
-turn j = cond j.«open» (cond (isUrgent j) j.left (later + j.left)) never
+turn j = cond j.«open» (cond (is_urgent j) j.left (later + j.left)) never
 
 -- none of the n flags from index i on is set
-unfoldable pub noneFrom : (ran : List Bool) → (i n : ℕ) → Bool
-noneFrom ran i zero = true
-noneFrom ran i (suc n) = not (get_or ran i false) && noneFrom ran (suc i) n
+unfoldable pub none_from : (ran : List Bool) → (i n : ℕ) → Bool
+none_from ran i zero = true
+none_from ran i (suc n) = not (get_or ran i false) && none_from ran (suc i) n
 
 -- no flag of a task is set from the count on
-unfoldable pub nonePast : (ran : List Bool) → (count : ℕ) → Bool
-nonePast ran count = noneFrom ran count (maxTasks - count)
+unfoldable pub none_past : (ran : List Bool) → (count : ℕ) → Bool
+none_past ran count = none_from ran count (max_tasks - count)

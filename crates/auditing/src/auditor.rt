@@ -1,6 +1,6 @@
 // An auditor, which is given a log part by part and holds no more of it than one line.
 ghost use Rattle.std.specs.Prelude.{◌≡◌};
-ghost use Rattle.auditing.specs.Auditor.{goesOn, refusedAuditor, startedAuditor, endedBy, onNextLine, keptLine, afterValueLine, withLine, fed, answer_of};
+ghost use Rattle.auditing.specs.Auditor.{goes_on, refused_auditor, started_auditor, ended_by, on_next_line, kept_line, after_value_line, with_line, fed, answer_of};
 
 use crate::judging::take_line;
 use crate::line::{LineRead, read_line};
@@ -39,7 +39,7 @@ pub struct Auditor {
 impl Auditor {
     // An auditor of a table that was refused, by reading or by judging: there is nothing to audit.
     pub fn refused(number: u32, place: u32) -> Self
-        ensures { result ≡ refusedAuditor number place }
+        ensures { result ≡ refused_auditor number place }
     {
         let machine = zero_machine();
         Auditor {
@@ -56,7 +56,7 @@ impl Auditor {
 
     // An auditor before the first byte of a log over a table on so many cores.
     pub fn start(table: Table, cores: u32) -> Self
-        ensures { result ≡ startedAuditor table cores }
+        ensures { result ≡ started_auditor table cores }
     {
         let started = Machine::start(table, cores);
         let outcome = started.outcome;
@@ -75,7 +75,7 @@ impl Auditor {
 
     // Whether more of the log can change the answer.
     pub fn goes_on(self) -> bool
-        ensures { result ≡ goesOn self.answer }
+        ensures { result ≡ goes_on self.answer }
     {
         let answer = self.answer;
         let Audit::Accepted = answer else {
@@ -86,7 +86,7 @@ impl Auditor {
 
     // The auditor that has found what ends the audit.
     fn ended_by(self, answer: Audit) -> Self
-        ensures { result ≡ endedBy self answer }
+        ensures { result ≡ ended_by self answer }
     {
         let machine = self.machine;
         let kept = self.kept;
@@ -101,7 +101,7 @@ impl Auditor {
 
     // The auditor at the next line, with the machine after the one before.
     fn on_next_line(self, machine: Machine) -> Self
-        ensures { result ≡ onNextLine self machine }
+        ensures { result ≡ on_next_line self machine }
     {
         let mut line = self.line;
         if line < LAST_LINE {
@@ -120,7 +120,7 @@ impl Auditor {
 
     // The auditor after this value line.
     fn value_line_ended(self, line: &[u8]) -> Self
-        ensures { result ≡ afterValueLine self line.now }
+        ensures { result ≡ after_value_line self line.now }
     {
         let LineRead::Read(values) = read_line(line) else {
             return self.ended_by(Audit::Refused {
@@ -139,7 +139,7 @@ impl Auditor {
 
     // The auditor after the line that it kept, whose byte 10 was met.
     fn line_ended(self) -> Self
-        ensures { result ≡ withLine self (keptLine self) }
+        ensures { result ≡ with_line self (kept_line self) }
     {
         let mut used = self.used;
         if LINE_ROOM < used {

@@ -1,6 +1,6 @@
 // One line of a log, judged on a machine.
-ghost use Rattle.tasks.specs.Flags.{flagsOf};
-ghost use Rattle.auditing.specs.Line.{releaseAt, finishAt, callsFrom};
+ghost use Rattle.tasks.specs.Flags.{flags_of};
+ghost use Rattle.auditing.specs.Line.{release_at, finish_at, calls_from};
 ghost use Rattle.auditing.specs.Parts.{TakesCalls, TakesLine};
 
 use crate::line::LogLine;
@@ -18,7 +18,7 @@ pub(crate) struct Taken {
 
 // The releases of the tasks that a value names, in rising number, each of the whole budget.
 fn take_releases(machine: Machine, released: u32) -> Taken
-    ensures { TakesCalls machine (callsFrom (releaseAt machine.table) 0 (flagsOf released)) result }
+    ensures { TakesCalls machine (calls_from (release_at machine.table) 0 (flags_of released)) result }
 {
     let mut after = machine;
     let mut rest = released;
@@ -48,7 +48,7 @@ fn take_releases(machine: Machine, released: u32) -> Taken
 
 // The finishes of the tasks that a value names, in rising number.
 fn take_finishes(machine: Machine, finished: u32) -> Taken
-    ensures { TakesCalls machine (callsFrom finishAt 0 (flagsOf finished)) result }
+    ensures { TakesCalls machine (calls_from finish_at 0 (flags_of finished)) result }
 {
     let mut after = machine;
     let mut rest = finished;

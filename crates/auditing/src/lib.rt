@@ -8,11 +8,11 @@ pub mod line;
 mod running;
 
 ghost use Rattle.std.specs.Prelude.{◌≡◌};
-ghost use Rattle.auditing.specs.Audit.{auditValuesOf, audited};
+ghost use Rattle.auditing.specs.Audit.{audit_values_of, audited};
 
 // The audit of a whole log over a table on so many cores.
 pub fn audit(table: Table, cores: u32, log: &[u8]) -> Audit
-    ensures { auditValuesOf result ≡ audited table cores log.now }
+    ensures { audit_values_of result ≡ audited table cores log.now }
 {
     let auditor = Auditor::start(table, cores);
     let fed = auditor.feed(log);

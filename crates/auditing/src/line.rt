@@ -1,6 +1,6 @@
 // A value line of a log, which stands here without its byte 10.
 ghost use Rattle.std.specs.Prelude.{◌≡◌};
-ghost use Rattle.auditing.specs.Parts.{lineRead};
+ghost use Rattle.auditing.specs.Parts.{line_read};
 
 use text::fields::fill_from_line;
 
@@ -27,7 +27,7 @@ pub(crate) enum LineRead {
 
 // The values of a line.
 pub(crate) fn read_line(line: &[u8]) -> LineRead
-    ensures { result ≡ lineRead line.now }
+    ensures { result ≡ line_read line.now }
 {
     let mut values = [0u32; 3];
     if !fill_from_line(line, &mut values, VALUE_DIGITS, MAX_VALUE) {

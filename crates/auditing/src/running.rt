@@ -1,8 +1,8 @@
 // Whether the tasks that ran in a slot could be chosen: document 02, change 11.
 ghost use Rattle.std.specs.Prelude.{◌≤◌, ◌≡◌, true};
 ghost use Rattle.machine.specs.Sound.{sound};
-ghost use Rattle.auditing.specs.Line.{legalRun};
-ghost use Rattle.auditing.specs.Turn.{turn, nonePast};
+ghost use Rattle.auditing.specs.Line.{legal_run};
+ghost use Rattle.auditing.specs.Turn.{turn, none_past};
 
 use job::job::Job;
 use machine::machine::Machine;
@@ -30,7 +30,7 @@ fn turn(job: Job) -> u64
 
 // Whether no flag from the count on is set.
 fn none_past(ran: Flags, count: usize) -> bool
-    ensures { result ≡ nonePast ran count }
+    ensures { result ≡ none_past ran count }
 {
     let mut i = count;
     while i < MAX_TASKS {
@@ -46,7 +46,7 @@ fn none_past(ran: Flags, count: usize) -> bool
 // the last turn of a runner is not after the first of an idle task.
 pub(crate) fn legal_run(machine: Machine, ran: Flags) -> bool
     requires { sound machine ≡ true }
-    ensures { result ≡ legalRun machine ran }
+    ensures { result ≡ legal_run machine ran }
 {
     let count = machine.table.count;
     let mut open: u32 = 0;

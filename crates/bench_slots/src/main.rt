@@ -1,6 +1,6 @@
 // Plays many slots of the table on standard input, on half as many cores as tasks, and prints a checksum: for benchmarks.
 ghost use Rattle.std.specs.Prelude.{◌^◌, ◌≤◌, ◌<◌};
-ghost use Rattle.tasks.specs.Limits.{maxTasks};
+ghost use Rattle.tasks.specs.Limits.{max_tasks};
 
 use job::job::Job;
 use machine::answer::Report;
@@ -67,7 +67,7 @@ fn may_release(job: Job) -> bool {
 // The checksum of the reports of so many slots of a machine of `count` tasks, each with the machine's cores. Before each slot every task whose
 // release would be accepted is released with its whole budget: a turn of the loop looks at one task, and after the last task it plays the slot.
 fn play(machine: Machine, count: usize, slots: u64) -> u64
-    requires { count ≤ maxTasks }
+    requires { count ≤ max_tasks }
 {
     let table = machine.table;
     let mut after = machine;

@@ -1,41 +1,41 @@
--- The examples of audits hold: antt computes what each gives (`audits-hold`), and that task 2 is late in line 5 of one (`late-in-line-5`).
+-- The examples of audits hold: antt computes what each gives (`audits_hold`), and that task 2 is late in line 5 of one (`late_in_line_5`).
 use mathlib.Core.Path.{◌≡◌, refl}
 use mathlib.Core.Bool.{Bool, true}
-use Rattle.text.specs.Lines.{has, before, after, firstIs, inFirst, lines, unended, fieldCount, field, is_empty}
-use Rattle.text.specs.Words.{sameBytes}
-use Rattle.text.specs.Number.{isDigit, allDigits, leadingZero, wellFormed, decimalFrom, decimal, is_number, digitsOf, decimalText}
-use Rattle.text.specs.Fields.{eachNumber, areNumbers}
-use Rattle.text.specs.Output.{furtherNumbers, numbersLine}
-use Rattle.tasks.specs.Flags.{flagsFrom, flagsOf}
-use Rattle.job.specs.Precedence.{jobBeats}
-use Rattle.machine.specs.Calls.{slotWith}
-use Rattle.machine.specs.Play.{machineAfter}
+use Rattle.text.specs.Lines.{has, before, after, first_is, in_first, lines, unended, field_count, field, is_empty}
+use Rattle.text.specs.Words.{same_bytes}
+use Rattle.text.specs.Number.{is_digit, all_digits, leading_zero, well_formed, decimal_from, decimal, is_number, digits_of, decimal_text}
+use Rattle.text.specs.Fields.{each_number, are_numbers}
+use Rattle.text.specs.Output.{further_numbers, numbers_line}
+use Rattle.tasks.specs.Flags.{flags_from, flags_of}
+use Rattle.job.specs.Precedence.{job_beats}
+use Rattle.machine.specs.Calls.{slot_with}
+use Rattle.machine.specs.Play.{machine_after}
 use Rattle.machine.proofs.Computing.{computing}
-use Rattle.auditing.specs.Log.{isNamesLine, isValueLine, values_of}
-use Rattle.auditing.specs.Line.{releaseAt, finishAt, callsFrom, lineCalls, allTaken, isOpenAt, ranOpen, unbeaten, noneBeaten, legalRun}
-use Rattle.auditing.specs.Line.{beforeRunning, runningOf, lineTaken, afterLine}
-use Rattle.auditing.specs.Audit.{acceptedLog, offendingLog, refusedLog, auditedLines, auditedLog, auditedAfter, audited}
-use Rattle.auditing.specs.OwnLog.{lineText, linesText}
-use Rattle.auditing.specs.InTimeLog.{afterLines}
-use Rattle.conformance.specs.AuditExamples.{allGive, allMust, caseJ, caseK, values, logWith, takes, offends, broken, nameless}
-use Rattle.conformance.specs.AuditExamples.{twoValues, leadingZeroLine, tooLarge, elevenDigits, notEnded, lateLines, auditExamples, lateInLine5}
+use Rattle.auditing.specs.Log.{is_names_line, is_value_line, values_of}
+use Rattle.auditing.specs.Line.{release_at, finish_at, calls_from, line_calls, all_taken, is_open_at, ran_open, unbeaten, none_beaten, legal_run}
+use Rattle.auditing.specs.Line.{before_running, running_of, line_taken, after_line}
+use Rattle.auditing.specs.Audit.{accepted_log, offending_log, refused_log, audited_lines, audited_log, audited_after, audited}
+use Rattle.auditing.specs.OwnLog.{line_text, lines_text}
+use Rattle.auditing.specs.InTimeLog.{after_lines}
+use Rattle.conformance.specs.AuditExamples.{all_give, all_must, case_j, case_k, values, log_with, takes, offends, broken, nameless}
+use Rattle.conformance.specs.AuditExamples.{two_values, leading_zero_line, too_large, eleven_digits, not_ended, late_lines, audit_examples, late_in_line5}
 
 unfoldable auditing : Bool
 unfolding
-    has before after firstIs inFirst lines unended fieldCount field is_empty sameBytes
-    isDigit allDigits leadingZero wellFormed decimalFrom decimal is_number digitsOf decimalText eachNumber areNumbers furtherNumbers numbersLine
-    flagsFrom flagsOf jobBeats slotWith machineAfter computing
-    isNamesLine isValueLine values_of releaseAt finishAt callsFrom lineCalls allTaken isOpenAt ranOpen unbeaten noneBeaten legalRun
-    beforeRunning runningOf lineTaken afterLine acceptedLog offendingLog refusedLog auditedLines auditedLog auditedAfter audited
-    lineText linesText afterLines
-    allGive allMust caseJ caseK values logWith takes offends broken nameless
-    twoValues leadingZeroLine tooLarge elevenDigits notEnded lateLines auditExamples lateInLine5
+    has before after first_is in_first lines unended field_count field is_empty same_bytes
+    is_digit all_digits leading_zero well_formed decimal_from decimal is_number digits_of decimal_text each_number are_numbers further_numbers numbers_line
+    flags_from flags_of job_beats slot_with machine_after computing
+    is_names_line is_value_line values_of release_at finish_at calls_from line_calls all_taken is_open_at ran_open unbeaten none_beaten legal_run
+    before_running running_of line_taken after_line accepted_log offending_log refused_log audited_lines audited_log audited_after audited
+    line_text lines_text after_lines
+    all_give all_must case_j case_k values log_with takes offends broken nameless
+    two_values leading_zero_line too_large eleven_digits not_ended late_lines audit_examples late_in_line5
 auditing = true
 
-pub audits-hold : allGive auditExamples ≡ allMust auditExamples
+pub audits_hold : all_give audit_examples ≡ all_must audit_examples
 unfolding auditing
-audits-hold = refl
+audits_hold = refl
 
-pub late-in-line-5 : lateInLine5 ≡ true
+pub late_in_line_5 : late_in_line5 ≡ true
 unfolding auditing
-late-in-line-5 = refl
+late_in_line_5 = refl

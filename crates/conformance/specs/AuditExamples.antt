@@ -1,15 +1,15 @@
 -- Examples of audits of logs (document 02, change 11): each as what the audit gives and what it has to give. The theorem stands in proofs/AuditExamplesHold.antt.
 use Rattle.std.specs.Prelude.{ℕ, Bool, false, List, [], ◌∷◌, ◌++◌, get_or}
-use Rattle.text.specs.Lines.{lineEnd}
+use Rattle.text.specs.Lines.{line_end}
 use Rattle.tasks.specs.declared.table.Table.{Table}
 use Rattle.tasks.specs.Written.{task, table_of}
-use Rattle.tasks.specs.Refusals.{badLogLine, noTask, coresOutOfRange}
+use Rattle.tasks.specs.Refusals.{bad_log_line, no_task, cores_out_of_range}
 use Rattle.machine.specs.Calls.{start}
-use Rattle.auditing.specs.Log.{namesLine}
-use Rattle.auditing.specs.Line.{runningOf}
-use Rattle.auditing.specs.Audit.{AuditValues, acceptedLog, offendingLog, refusedLog, audited}
-use Rattle.auditing.specs.OwnLog.{linesText}
-use Rattle.auditing.specs.InTimeLog.{afterLines}
+use Rattle.auditing.specs.Log.{names_line}
+use Rattle.auditing.specs.Line.{running_of}
+use Rattle.auditing.specs.Audit.{AuditValues, accepted_log, offending_log, refused_log, audited}
+use Rattle.auditing.specs.OwnLog.{lines_text}
+use Rattle.auditing.specs.InTimeLog.{after_lines}
 use Rattle.auditing.specs.declared.line.LogLine.{LogLine}
 
 -- what an audit gives, and what it has to give
@@ -17,65 +17,65 @@ pub record AuditExample : Type 0 where
   pub gives : AuditValues
   pub must : AuditValues
 
-unfoldable pub allGive : List AuditExample → List AuditValues
-allGive [] = []
-allGive (x ∷ xs) = x.gives ∷ allGive xs
+unfoldable pub all_give : List AuditExample → List AuditValues
+all_give [] = []
+all_give (x ∷ xs) = x.gives ∷ all_give xs
 
-unfoldable pub allMust : List AuditExample → List AuditValues
-allMust [] = []
-allMust (x ∷ xs) = x.must ∷ allMust xs
+unfoldable pub all_must : List AuditExample → List AuditValues
+all_must [] = []
+all_must (x ∷ xs) = x.must ∷ all_must xs
 
 -- the tasks of document 01's case j, to be on 2 cores; two tasks of case k, on 1 core
-unfoldable pub caseJ : Table
-caseJ = table_of (task 6 2 3 ∷ task 6 2 3 ∷ task 6 5 6 ∷ [])
+unfoldable pub case_j : Table
+case_j = table_of (task 6 2 3 ∷ task 6 2 3 ∷ task 6 5 6 ∷ [])
 
-unfoldable pub caseK : Table
-caseK = table_of (task 5 5 5 ∷ task 5 5 5 ∷ [])
+unfoldable pub case_k : Table
+case_k = table_of (task 5 5 5 ∷ task 5 5 5 ∷ [])
 
 -- a value line
 unfoldable pub values : (released finished ran : ℕ) → LogLine
 values released finished ran = record { released = released; finished = finished; ran = ran }
 
 -- a log of these lines, with these bytes after them
-unfoldable pub logWith : List LogLine → (more : List ℕ) → List ℕ
-logWith ls more = namesLine ++ lineEnd ∷ (linesText ls ++ more)
+unfoldable pub log_with : List LogLine → (more : List ℕ) → List ℕ
+log_with ls more = names_line ++ line_end ∷ (lines_text ls ++ more)
 
 -- on case j's table and 2 cores such a log is accepted, offends in this line, or is broken at this line
 unfoldable pub takes : List LogLine → AuditExample
-takes ls = record { gives = audited caseJ 2 (logWith ls []); must = acceptedLog }
+takes ls = record { gives = audited case_j 2 (log_with ls []); must = accepted_log }
 
 unfoldable pub offends : (line : ℕ) → List LogLine → (more : List ℕ) → AuditExample
-offends line ls more = record { gives = audited caseJ 2 (logWith ls more); must = offendingLog line }
+offends line ls more = record { gives = audited case_j 2 (log_with ls more); must = offending_log line }
 
 unfoldable pub broken : (line : ℕ) → List LogLine → (more : List ℕ) → AuditExample
-broken line ls more = record { gives = audited caseJ 2 (logWith ls more); must = refusedLog badLogLine line }
+broken line ls more = record { gives = audited case_j 2 (log_with ls more); must = refused_log bad_log_line line }
 
 -- such a text is no log: number 18 at the names line
 unfoldable pub nameless : (text : List ℕ) → AuditExample
-nameless text = record { gives = audited caseJ 2 text; must = refusedLog badLogLine 0 }
+nameless text = record { gives = audited case_j 2 text; must = refused_log bad_log_line 0 }
 
 -- the bytes of "0 0" and byte 10, of "07 0 3" and byte 10, of "4294967296 0 0" and byte 10, of "10000000000 0 0" and byte 10, and of "0 0 0", not ended
-unfoldable pub twoValues : List ℕ
-twoValues = 48 ∷ 32 ∷ 48 ∷ 10 ∷ []
+unfoldable pub two_values : List ℕ
+two_values = 48 ∷ 32 ∷ 48 ∷ 10 ∷ []
 
-unfoldable pub leadingZeroLine : List ℕ
-leadingZeroLine = 48 ∷ 55 ∷ 32 ∷ 48 ∷ 32 ∷ 51 ∷ 10 ∷ []
+unfoldable pub leading_zero_line : List ℕ
+leading_zero_line = 48 ∷ 55 ∷ 32 ∷ 48 ∷ 32 ∷ 51 ∷ 10 ∷ []
 
-unfoldable pub tooLarge : List ℕ
-tooLarge = 52 ∷ 50 ∷ 57 ∷ 52 ∷ 57 ∷ 54 ∷ 55 ∷ 50 ∷ 57 ∷ 54 ∷ 32 ∷ 48 ∷ 32 ∷ 48 ∷ 10 ∷ []
+unfoldable pub too_large : List ℕ
+too_large = 52 ∷ 50 ∷ 57 ∷ 52 ∷ 57 ∷ 54 ∷ 55 ∷ 50 ∷ 57 ∷ 54 ∷ 32 ∷ 48 ∷ 32 ∷ 48 ∷ 10 ∷ []
 
-unfoldable pub elevenDigits : List ℕ
-elevenDigits = 49 ∷ 48 ∷ 48 ∷ 48 ∷ 48 ∷ 48 ∷ 48 ∷ 48 ∷ 48 ∷ 48 ∷ 48 ∷ 32 ∷ 48 ∷ 32 ∷ 48 ∷ 10 ∷ []
+unfoldable pub eleven_digits : List ℕ
+eleven_digits = 49 ∷ 48 ∷ 48 ∷ 48 ∷ 48 ∷ 48 ∷ 48 ∷ 48 ∷ 48 ∷ 48 ∷ 48 ∷ 32 ∷ 48 ∷ 32 ∷ 48 ∷ 10 ∷ []
 
-unfoldable pub notEnded : List ℕ
-notEnded = 48 ∷ 32 ∷ 48 ∷ 32 ∷ 48 ∷ []
+unfoldable pub not_ended : List ℕ
+not_ended = 48 ∷ 32 ∷ 48 ∷ 32 ∷ 48 ∷ []
 
 -- two jobs of case k, of which the second is late in line 5, and then the first again is
-unfoldable pub lateLines : List LogLine
-lateLines = values 3 0 1 ∷ values 0 0 1 ∷ values 0 0 1 ∷ values 0 0 1 ∷ []
+unfoldable pub late_lines : List LogLine
+late_lines = values 3 0 1 ∷ values 0 0 1 ∷ values 0 0 1 ∷ values 0 0 1 ∷ []
 
-unfoldable pub auditExamples : List AuditExample
-auditExamples =
+unfoldable pub audit_examples : List AuditExample
+audit_examples =
     -- the lines of our own machine, and two that are alike exchanged
     takes (values 7 0 3 ∷ values 0 0 5 ∷ values 0 0 6 ∷ values 0 0 4 ∷ values 0 0 4 ∷ values 0 0 4 ∷ []) ∷
     takes (values 7 0 3 ∷ values 0 0 6 ∷ values 0 0 5 ∷ values 0 0 4 ∷ values 0 0 4 ∷ values 0 0 4 ∷ []) ∷
@@ -95,21 +95,21 @@ auditExamples =
     offends 1 (values 7 0 5 ∷ []) [] ∷
     offends 2 (values 7 0 3 ∷ values 0 0 3 ∷ []) [] ∷
     -- lines in turn: an offence in line 1 goes before a broken line 2
-    offends 1 (values 0 0 1 ∷ []) twoValues ∷
-    broken 2 (values 0 0 0 ∷ []) twoValues ∷
-    broken 1 [] tooLarge ∷
-    broken 1 [] leadingZeroLine ∷
-    broken 1 [] elevenDigits ∷
-    broken 2 (values 0 0 0 ∷ []) notEnded ∷
-    nameless namesLine ∷
+    offends 1 (values 0 0 1 ∷ []) two_values ∷
+    broken 2 (values 0 0 0 ∷ []) two_values ∷
+    broken 1 [] too_large ∷
+    broken 1 [] leading_zero_line ∷
+    broken 1 [] eleven_digits ∷
+    broken 2 (values 0 0 0 ∷ []) not_ended ∷
+    nameless names_line ∷
     nameless [] ∷
     -- a late job does not offend
-    record { gives = audited caseK 1 (logWith (lateLines ++ values 0 0 1 ∷ values 3 0 2 ∷ []) []); must = acceptedLog } ∷
+    record { gives = audited case_k 1 (log_with (late_lines ++ values 0 0 1 ∷ values 3 0 2 ∷ []) []); must = accepted_log } ∷
     -- the table and m go before the log
-    record { gives = audited (table_of []) 2 []; must = refusedLog noTask 0 } ∷
-    record { gives = audited caseJ 17 []; must = refusedLog coresOutOfRange 0 } ∷
+    record { gives = audited (table_of []) 2 []; must = refused_log no_task 0 } ∷
+    record { gives = audited case_j 17 []; must = refused_log cores_out_of_range 0 } ∷
     []
 
 -- whether task 2 is late in line 5 of the log with the late job
-unfoldable pub lateInLine5 : Bool
-lateInLine5 = get_or (runningOf (afterLines (start caseK 1).machine lateLines) (values 0 0 1)).report.late 1 false
+unfoldable pub late_in_line5 : Bool
+late_in_line5 = get_or (running_of (after_lines (start case_k 1).machine late_lines) (values 0 0 1)).report.late 1 false

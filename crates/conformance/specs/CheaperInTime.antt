@@ -13,7 +13,7 @@ use Rattle.machine.specs.declared.call.Call.{Call}
 -- a table starts on so many cores, and the claim of demand 3 holds of the log of every list of calls from the fresh machine
 pub record StartsInTime (t : Table) (m : ℕ) : Type 0 where
   pub starts : (start t m).outcome ≡ Done
-  pub in-time : (calls : List Call) → InTime t (play (start t m).machine calls)
+  pub in_time : (calls : List Call) → InTime t (play (start t m).machine calls)
 
 -- if the window test or the slack test admits the table t on m cores, then `StartsInTime` of every table t' that is cheaper, on its m' cores; that t' is
 -- admitted is not asked

@@ -1,8 +1,8 @@
 -- What a computed test looks through of this crate, in one name.
 use mathlib.Core.Bool.{Bool, true}
-use Rattle.cores.specs.Assign.{keptCore, kept, isAmong, firstUnused, taken, assignment}
-use Rattle.cores.specs.Record.{coresSound}
+use Rattle.cores.specs.Assign.{kept_core, kept, is_among, first_unused, taken, assignment}
+use Rattle.cores.specs.Record.{cores_sound}
 
-unfoldable pub computingCores : Bool
-unfolding keptCore kept isAmong firstUnused taken assignment coresSound
-computingCores = true
+unfoldable pub computing_cores : Bool
+unfolding kept_core kept is_among first_unused taken assignment cores_sound
+computing_cores = true

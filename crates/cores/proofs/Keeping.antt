@@ -1,5 +1,5 @@
--- The runners that keep their cores, from the last to the first, as the code goes: `Keeping`, with `keeping-length`, `keeping_none`, `keeping-more`, `keeping-large` and
--- `keeping-far`.
+-- The runners that keep their cores, from the last to the first, as the code goes: `Keeping`, with `keeping_length`, `keeping_none`, `keeping_more`, `keeping_large` and
+-- `keeping_far`.
 use Prim.Native.Nat.{ℕ, suc, ◌-◌, ◌≤◌, ◌<◌}
 use mathlib.Core.Path.{◌≡◌, sym, ap, ◌∙◌}
 use mathlib.Core.List.{List, ◌∷◌}
@@ -9,14 +9,14 @@ use native.Mathlib.Omega.{arith}
 use native.Mathlib.Nat.{le_refl}
 use lib.ListN.{length, get_or, set, drop, replicate, length-replicate}
 use lib.Seq.{drop-length, drop-cons, set_out}
-use Rattle.laws.proofs.CaseSplits.{by-test}
-use Rattle.laws.proofs.Replaced.{replicate-entry}
-use Rattle.tasks.specs.Limits.{maxTasks}
-use Rattle.cores.specs.Assign.{keptCore, kept, isAmong}
+use Rattle.laws.proofs.CaseSplits.{by_test}
+use Rattle.laws.proofs.Replaced.{replicate_entry}
+use Rattle.tasks.specs.Limits.{max_tasks}
+use Rattle.cores.specs.Assign.{kept_core, kept, is_among}
 use Rattle.cores.specs.Used.{Flagged}
-use Rattle.cores.proofs.KeptLaws.{length-kept, kept_at}
-use Rattle.cores.proofs.AmongLaws.{among-index}
-use Rattle.cores.proofs.Flags.{flag-set, flag-far}
+use Rattle.cores.proofs.KeptLaws.{length_kept, kept_at}
+use Rattle.cores.proofs.AmongLaws.{among_index}
+use Rattle.cores.proofs.Flags.{flag_set, flag_far}
 
 -- the runners from n on have kept theirs
 pub record Keeping (recorded : List ℕ) (k : ℕ) (runners assigned : List ℕ) (used : List Bool) (n : ℕ) : Type 0 where
@@ -24,21 +24,21 @@ pub record Keeping (recorded : List ℕ) (k : ℕ) (runners assigned : List ℕ)
   pub are : assigned ≡ kept recorded k (drop n runners)
   pub flagged : Flagged assigned used
 
-pub keeping-length :
+pub keeping_length :
     {recorded : List ℕ} {k : ℕ} {runners assigned : List ℕ} {used : List Bool} {n : ℕ} → Keeping recorded k runners assigned used n
-    → length assigned ≡ maxTasks
-keeping-length {recorded} {k} {runners} {assigned} {used} {n} now = rw now.are (length-kept recorded k (drop n runners))
+    → length assigned ≡ max_tasks
+keeping_length {recorded} {k} {runners} {assigned} {used} {n} now = rw now.are (length_kept recorded k (drop n runners))
 
 -- no core is among zeros
-none-among : (n x : ℕ) → 1 ≤ x → isAmong (replicate n 0) x ≡ false
-none-among n x some =
-    by-test (isAmong (replicate n 0) x)
-    (λ t. let (i, inside, is) = among-index (replicate n 0) x t in absurd (omega (arith, replicate-entry {A = ℕ} n i 0)))
+none_among : (n x : ℕ) → 1 ≤ x → is_among (replicate n 0) x ≡ false
+none_among n x some =
+    by_test (is_among (replicate n 0) x)
+    (λ t. let (i, inside, is) = among_index (replicate n 0) x t in absurd (omega (arith, replicate_entry {A = ℕ} n i 0)))
     (λ f. f)
 
 pub keeping_none :
     (recorded : List ℕ) (k : ℕ) (runners : List ℕ)
-    → Keeping recorded k runners (replicate maxTasks 0) (replicate (suc maxTasks) false) (length runners)
+    → Keeping recorded k runners (replicate max_tasks 0) (replicate (suc max_tasks) false) (length runners)
 unfolding kept
 keeping_none recorded k runners =
     record {
@@ -46,8 +46,8 @@ keeping_none recorded k runners =
       are = rw (drop-length runners);
       flagged =
           record {
-            all-flags = length-replicate (suc maxTasks) false;
-            flag = λ x some small. replicate-entry (suc maxTasks) x false ∙ sym (none-among maxTasks x some);
+            all_flags = length-replicate (suc max_tasks) false;
+            flag = λ x some small. replicate_entry (suc max_tasks) x false ∙ sym (none_among max_tasks x some);
           };
     }
 
@@ -64,7 +64,7 @@ module _
     next = get_or runners (n - 1) 0
 
     abbrev core : ℕ
-    core = keptCore (get_or recorded next 0) k
+    core = kept_core (get_or recorded next 0) k
 
     one_more : drop (n - 1) runners ≡ next ∷ drop n runners
     one_more =
@@ -77,39 +77,39 @@ module _
     set_is = rw (one_more, now.are)
 
     -- it had none, or the same, if it was listed before
-    had : next < maxTasks → (get_or assigned next 0 ≡ 0) ⊎ (get_or assigned next 0 ≡ core)
+    had : next < max_tasks → (get_or assigned next 0 ≡ 0) ⊎ (get_or assigned next 0 ≡ core)
     had h =
         let is = kept_at recorded k (drop n runners) next h in
-        by-test (isAmong (drop n runners) next)
+        by_test (is_among (drop n runners) next)
         (λ t. inr (rw now.are (is ∙ rw t)))
         (λ f. inl (rw now.are (is ∙ rw f)))
 
-    module _ (h : next < maxTasks) where
+    module _ (h : next < max_tasks) where
       inside : next < length assigned
-      inside = rw now.are (omega (arith, length-kept recorded k (drop n runners)))
+      inside = rw now.are (omega (arith, length_kept recorded k (drop n runners)))
 
-      pub keeping-more : core ≤ maxTasks → Keeping recorded k runners (set assigned next core) (set used core true) (n - 1)
-      keeping-more fits =
+      pub keeping_more : core ≤ max_tasks → Keeping recorded k runners (set assigned next core) (set used core true) (n - 1)
+      keeping_more fits =
           record {
             within = omega (arith, now.within);
             are = set_is;
-            flagged = flag-set assigned used now.flagged next core inside (had h) fits;
+            flagged = flag_set assigned used now.flagged next core inside (had h) fits;
           }
 
       -- a core that has no flag
-      pub keeping-large : maxTasks < core → Keeping recorded k runners (set assigned next core) used (n - 1)
-      keeping-large large =
+      pub keeping_large : max_tasks < core → Keeping recorded k runners (set assigned next core) used (n - 1)
+      keeping_large large =
           record {
             within = omega (arith, now.within);
             are = set_is;
-            flagged = flag-far assigned used now.flagged next core inside (had h) large;
+            flagged = flag_far assigned used now.flagged next core inside (had h) large;
           }
 
     -- an index that is no task's
-    pub keeping-far : maxTasks ≤ next → Keeping recorded k runners assigned used (n - 1)
-    keeping-far far =
+    pub keeping_far : max_tasks ≤ next → Keeping recorded k runners assigned used (n - 1)
+    keeping_far far =
         record {
           within = omega (arith, now.within);
-          are = sym (set_out assigned next core (rw now.are (omega (arith, length-kept recorded k (drop n runners))))) ∙ set_is;
+          are = sym (set_out assigned next core (rw now.are (omega (arith, length_kept recorded k (drop n runners))))) ∙ set_is;
           flagged = now.flagged;
         }

@@ -1,7 +1,7 @@
 // Which core each runner of a slot has.
 ghost use Rattle.std.specs.Prelude.{suc, min, ◌≡◌, false, get_or, replicate};
-ghost use Rattle.tasks.specs.Limits.{maxTasks};
-ghost use Rattle.cores.specs.Assign.{keptCore, firstUnused, assignment};
+ghost use Rattle.tasks.specs.Limits.{max_tasks};
+ghost use Rattle.cores.specs.Assign.{kept_core, first_unused, assignment};
 ghost use Rattle.cores.specs.Used.{KeptCores};
 
 use tasks::limits::MAX_TASKS;
@@ -14,7 +14,7 @@ const USED_FLAGS: usize = MAX_TASKS + 1;
 
 // The core that a runner keeps, by its recorded one: 0 where it keeps none.
 fn kept_core(recorded: u32, available: u32) -> u32
-    ensures { result ≡ keptCore recorded available }
+    ensures { result ≡ kept_core recorded available }
 {
     if recorded <= available {
         return recorded;
@@ -24,7 +24,7 @@ fn kept_core(recorded: u32, available: u32) -> u32
 
 // Puts the cores of the runners that keep theirs into an array of no cores, and their flags into one of none.
 fn keep(recorded: Cores, runners: &[usize], available: u32, cores: &mut [u32], used: &mut [bool])
-    requires { (cores.old ≡ replicate maxTasks 0) × (used.old ≡ replicate (suc maxTasks) false) }
+    requires { (cores.old ≡ replicate max_tasks 0) × (used.old ≡ replicate (suc max_tasks) false) }
     ensures { KeptCores recorded available runners.now cores.new used.new }
 {
     let mut n = runners.len();
@@ -43,7 +43,7 @@ fn keep(recorded: Cores, runners: &[usize], available: u32, cores: &mut [u32], u
 
 // The lowest core that is not used, of those that have a flag: 0 where there is none up to the number available.
 fn first_unused(used: [bool; USED_FLAGS], available: u32) -> usize
-    ensures { result ≡ firstUnused (λ core. get_or used core false) 1 (min available maxTasks) }
+    ensures { result ≡ first_unused (λ core. get_or used core false) 1 (min available max_tasks) }
 {
     let mut core: usize = 1;
     while core < USED_FLAGS {

@@ -1,6 +1,6 @@
 // Whether a record of cores is sound.
 ghost use Rattle.std.specs.Prelude.{◌≡◌};
-ghost use Rattle.cores.specs.Record.{coresSound};
+ghost use Rattle.cores.specs.Record.{cores_sound};
 
 use tasks::limits::MAX_CORES;
 
@@ -9,7 +9,7 @@ const SEEN_FLAGS: usize = MAX_CORES as usize + 1;
 
 // Whether no recorded core is above the most that a machine has, and none but 0, no core, is recorded twice.
 pub fn cores_sound(recorded: &[u32]) -> bool
-    ensures { result ≡ coresSound recorded.now }
+    ensures { result ≡ cores_sound recorded.now }
 {
     let mut seen = [false; SEEN_FLAGS];
     let mut n = recorded.len();

@@ -1,12 +1,12 @@
 -- The example of a lower budget holds: antt computes every entry of the list.
 use mathlib.Core.Path.{◌≡◌, refl}
 use mathlib.Core.Bool.{true}
-use Rattle.laws.specs.Examples.{allTrue}
-use Rattle.edzl.specs.SlackExamples.{plainTask, setOf}
-use Rattle.edzl.specs.SumExamples.{countIs}
-use Rattle.edzl.specs.CheaperExamples.{thirdIs, withThird, plainCheaperExamples}
-use Rattle.edzl.proofs.SlackExamplesHold.{computingTests}
+use Rattle.laws.specs.Examples.{all_true}
+use Rattle.edzl.specs.SlackExamples.{plain_task, set_of}
+use Rattle.edzl.specs.SumExamples.{count_is}
+use Rattle.edzl.specs.CheaperExamples.{third_is, with_third, plain_cheaper_examples}
+use Rattle.edzl.proofs.SlackExamplesHold.{computing_tests}
 
-pub plain-cheaper-examples-hold : allTrue plainCheaperExamples ≡ true
-unfolding computingTests allTrue plainTask setOf countIs thirdIs withThird plainCheaperExamples
-plain-cheaper-examples-hold = refl
+pub plain_cheaper_examples_hold : all_true plain_cheaper_examples ≡ true
+unfolding computing_tests all_true plain_task set_of count_is third_is with_third plain_cheaper_examples
+plain_cheaper_examples_hold = refl

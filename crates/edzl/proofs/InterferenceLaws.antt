@@ -1,15 +1,15 @@
--- The laws of interference. As a function of the window, for a task with 1 ≤ C ≤ T, others cite: `monotone`, `grows`, `period-more`,
--- `first-period`, `at_least`, `at_most`, and `staircase`, from which they come, the value by the whole periods and the rest. Of the other two numbers:
--- `budget-monotone`, `period-antitone`.
+-- The laws of interference. As a function of the window, for a task with 1 ≤ C ≤ T, others cite: `monotone`, `grows`, `period_more`,
+-- `first_period`, `at_least`, `at_most`, and `staircase`, from which they come, the value by the whole periods and the rest. Of the other two numbers:
+-- `budget_monotone`, `period_antitone`.
 use Prim.Native.Nat.{ℕ, zero, suc, ◌+◌, ◌*◌, ◌-◌, ◌/◌, ◌%◌, ◌≤◌, ◌<◌, min}
 use mathlib.Core.Path.{◌≡◌, sym}
 use native.Mathlib.Nat.{le_refl, mul-le-mul_left, add-zero, add-suc, div-add-mod', div-eq_of_lt-le, mod-lt}
 use native.Mathlib.Omega.{arith}
 use Rattle.edzl.specs.Window.{interference}
 use Rattle.laws.proofs.CaseSplits.{by_order}
-use Rattle.laws.proofs.Steps.{by-steps}
+use Rattle.laws.proofs.Steps.{by_steps}
 
-module _ (T C : ℕ) (T-some : 1 ≤ T) (C-fits : C ≤ T) where
+module _ (T C : ℕ) (t_some : 1 ≤ T) (c_fits : C ≤ T) where
   -- The value where the quotient is known.
   at_quotient : (q r L : ℕ) → L ≡ q * T + r → L / T ≡ q → interference T C L ≡ q * C + min C r
   unfolding interference
@@ -28,39 +28,39 @@ module _ (T C : ℕ) (T-some : 1 ≤ T) (C-fits : C ≤ T) where
       (λ part. at_quotient q r L e (div-eq_of_lt-le T (omega arith) (omega arith)))
 
   -- One more slot in the window adds nothing or one.
-  one-step : (L : ℕ) → (interference T C L ≤ interference T C (suc L)) × (interference T C (suc L) ≤ interference T C L + 1)
-  one-step L =
+  one_step : (L : ℕ) → (interference T C L ≤ interference T C (suc L)) × (interference T C (suc L) ≤ interference T C L + 1)
+  one_step L =
       let q = L / T in
       let r = L % T in
       let e : L ≡ q * T + r = sym (div-add-mod' L T) in
-      let h : r < T = mod-lt L T-some in
+      let h : r < T = mod-lt L t_some in
       omega (arith, staircase q r L e (omega arith), staircase q (suc r) (suc L) (omega arith) h)
 
   pub monotone : (K L : ℕ) → K ≤ L → interference T C K ≤ interference T C L
-  monotone = by-steps (interference T C) (λ L. (one-step L).0)
+  monotone = by_steps (interference T C) (λ L. (one_step L).0)
 
   -- A window that is d slots longer adds at most d.
   pub grows : (d L : ℕ) → interference T C (L + d) ≤ interference T C L + d
   grows zero L = rw (add-zero L) (omega arith)
-  grows (suc d) L = rw (add-suc L d) (omega (arith, grows d L, one-step (L + d)))
+  grows (suc d) L = rw (add-suc L d) (omega (arith, grows d L, one_step (L + d)))
 
   -- A whole period adds a whole budget.
-  pub period-more : (L : ℕ) → interference T C (L + T) ≡ interference T C L + C
-  period-more L =
+  pub period_more : (L : ℕ) → interference T C (L + T) ≡ interference T C L + C
+  period_more L =
       let q = L / T in
       let r = L % T in
       let e : L ≡ q * T + r = sym (div-add-mod' L T) in
-      let h : r < T = mod-lt L T-some in
+      let h : r < T = mod-lt L t_some in
       omega (arith, staircase q r L e (omega arith), staircase (suc q) r (L + T) (omega arith) (omega arith))
 
-  pub first-period : (L : ℕ) → L ≤ T → interference T C L ≡ min C L
-  first-period L h = omega (arith, staircase 0 L L (omega arith) h)
+  pub first_period : (L : ℕ) → L ≤ T → interference T C L ≡ min C L
+  first_period L h = omega (arith, staircase 0 L L (omega arith) h)
 
   pub at_least : (L : ℕ) → min C L ≤ interference T C L
   at_least L =
       by_order L T
-      (λ h. omega (arith, first-period L h))
-      (λ h. omega (arith, first-period T (le_refl T), monotone T L (omega arith)))
+      (λ h. omega (arith, first_period L h))
+      (λ h. omega (arith, first_period T (le_refl T), monotone T L (omega arith)))
 
   -- A window holds no more slots than it has.
   pub at_most : (L : ℕ) → interference T C L ≤ L
@@ -68,25 +68,25 @@ module _ (T C : ℕ) (T-some : 1 ≤ T) (C-fits : C ≤ T) where
       let q = L / T in
       let r = L % T in
       let e : L ≡ q * T + r = sym (div-add-mod' L T) in
-      let h : r < T = mod-lt L T-some in
-      omega (arith, staircase q r L e (omega arith), mul-le-mul_left q C-fits)
+      let h : r < T = mod-lt L t_some in
+      omega (arith, staircase q r L e (omega arith), mul-le-mul_left q c_fits)
 
-  pub periods-more : (q L : ℕ) → interference T C (L + q * T) ≡ interference T C L + q * C
-  periods-more zero L =
+  pub periods_more : (q L : ℕ) → interference T C (L + q * T) ≡ interference T C L + q * C
+  periods_more zero L =
       let e : L + 0 * T ≡ L = omega arith in
       rw e (omega arith)
-  periods-more (suc q) L =
+  periods_more (suc q) L =
       let e : L + suc q * T ≡ (L + q * T) + T = omega arith in
-      rw e (omega (arith, periods-more q L, period-more (L + q * T)))
+      rw e (omega (arith, periods_more q L, period_more (L + q * T)))
 
 -- A larger budget takes no less.
-pub budget-monotone : (T B C L : ℕ) → B ≤ C → interference T B L ≤ interference T C L
+pub budget_monotone : (T B C L : ℕ) → B ≤ C → interference T B L ≤ interference T C L
 unfolding interference
-budget-monotone T B C L h = omega (arith, mul-le-mul_left (L / T) h)
+budget_monotone T B C L h = omega (arith, mul-le-mul_left (L / T) h)
 
 -- A longer period takes no more.
-pub period-antitone : (T U C : ℕ) → 1 ≤ T → C ≤ T → T ≤ U → (L : ℕ) → interference U C L ≤ interference T C L
-period-antitone T U C T-some C-fits h L =
+pub period_antitone : (T U C : ℕ) → 1 ≤ T → C ≤ T → T ≤ U → (L : ℕ) → interference U C L ≤ interference T C L
+period_antitone T U C t_some c_fits h L =
     let q = L / U in
     let r = L % U in
     let e : L ≡ q * U + r = sym (div-add-mod' L U) in
@@ -95,7 +95,7 @@ period-antitone T U C T-some C-fits h L =
     omega (
       arith,
       staircase U C (omega arith) (omega arith) q r L e (omega arith),
-      monotone T C T-some C-fits (r + q * T) L shorter,
-      periods-more T C T-some C-fits q r,
-      at_least T C T-some C-fits r,
+      monotone T C t_some c_fits (r + q * T) L shorter,
+      periods_more T C t_some c_fits q r,
+      at_least T C t_some c_fits r,
     )

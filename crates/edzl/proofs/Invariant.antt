@@ -1,6 +1,6 @@
 -- The invariant that keeps every job in time, on the state of the jobs as plain functions of the task's index. Others cite: `Jobs`, `Invariant`
--- and its parts; `Fresh`, `SameJob`, `RestSame`; `Held`, what it says of one task, with `invariant`, `of-task`, `held-open` and `held-closed`;
--- and `fresh-starts`, that a fresh state has it.
+-- and its parts; `Fresh`, `SameJob`, `RestSame`; `Held`, what it says of one task, with `invariant`, `of_task_lem`, `held_open` and `held_closed`;
+-- and `fresh_starts`, that a fresh state has it.
 use Prim.Native.Nat.{ℕ, ◌+◌, ◌*◌, ◌-◌, ◌≤◌, ◌<◌, min}
 use mathlib.Core.Path.{◌≡◌}
 use mathlib.Core.Bool.{Bool, true, false, cond}
@@ -8,44 +8,44 @@ use native.Mathlib.Omega.{arith}
 use Rattle.edzl.specs.TaskSet.{TaskSet}
 use Rattle.edzl.specs.Window.{interference, spare}
 use Rattle.laws.specs.Sums.{sum_to, others}
-use Rattle.laws.proofs.CaseSplits.{not-both}
-use Rattle.edzl.proofs.Potential.{openClaim, closedClaim}
+use Rattle.laws.proofs.CaseSplits.{not_both}
+use Rattle.edzl.proofs.Potential.{open_claim, closed_claim}
 
 -- The state of each task's job: whether there is one, its slots to the deadline, its slots still owed, and the slots until the task's
 -- next release is allowed.
 pub record Jobs : Type 0 where
-  pub isOpen : ℕ → Bool
+  pub is_open : ℕ → Bool
   pub left : ℕ → ℕ
   pub budget : ℕ → ℕ
   pub gap : ℕ → ℕ
 
 -- Task i has no job: "A closed task has left 0 and budget 0."
 pub record NoJob (jobs : Jobs) (i : ℕ) : Type 0 where
-  pub closed : jobs.isOpen i ≡ false
-  pub left-none : jobs.left i ≡ 0
-  pub budget-none : jobs.budget i ≡ 0
+  pub closed : jobs.is_open i ≡ false
+  pub left_none : jobs.left i ≡ 0
+  pub budget_none : jobs.budget i ≡ 0
 
 -- The numbers of an open job: the gap ends with the period that the job was released in.
 pub record OpenShape (T C D left budget gap : ℕ) : Type 0 where
-  pub left-some : 1 ≤ left
-  pub left-fits : left ≤ D
-  pub budget-some : 1 ≤ budget
-  pub budget-fits : budget ≤ C
+  pub left_some : 1 ≤ left
+  pub left_fits : left ≤ D
+  pub budget_some : 1 ≤ budget
+  pub budget_fits : budget ≤ C
   pub gap_is : gap ≡ left + (T - D)
 
 -- The numbers of task i, with a job and without.
 pub record Shape (tasks : TaskSet) (jobs : Jobs) (i : ℕ) : Type 0 where
-  pub gap-fits : jobs.gap i ≤ tasks.period i
-  pub while-open : jobs.isOpen i ≡ true →
+  pub gap_fits : jobs.gap i ≤ tasks.period i
+  pub while_open : jobs.is_open i ≡ true →
       OpenShape (tasks.period i) (tasks.budget i) (tasks.deadline i) (jobs.left i) (jobs.budget i) (jobs.gap i)
-  pub while-closed : jobs.isOpen i ≡ false → NoJob jobs i
+  pub while_closed : jobs.is_open i ≡ false → NoJob jobs i
 
 -- What task i can still take from a job that has l slots to its deadline.
 unfoldable pub claim : TaskSet → Jobs → (l i : ℕ) → ℕ
 claim tasks jobs l i =
-    cond (jobs.isOpen i)
-    (openClaim (tasks.period i) (tasks.budget i) (jobs.left i) (jobs.budget i) l)
-    (closedClaim (tasks.period i) (tasks.budget i) (tasks.deadline i) (jobs.gap i) l)
+    cond (jobs.is_open i)
+    (open_claim (tasks.period i) (tasks.budget i) (jobs.left i) (jobs.budget i) l)
+    (closed_claim (tasks.period i) (tasks.budget i) (tasks.deadline i) (jobs.gap i) l)
 
 -- What the window test allows task i to take from a job of task k.
 unfoldable pub allowance : TaskSet → (slack : ℕ → ℕ) → (k i : ℕ) → ℕ
@@ -66,7 +66,7 @@ pub record Bound (tasks : TaskSet) (slack : ℕ → ℕ) (m : ℕ) (jobs : Jobs)
 
 -- A job owes at most the slots that it has, with the task's slack to spare.
 unfoldable pub Ahead : TaskSet → (slack : ℕ → ℕ) → Jobs → Type 0
-Ahead tasks slack jobs = (i : ℕ) → i < tasks.count → jobs.isOpen i ≡ true → jobs.budget i + slack i ≤ jobs.left i
+Ahead tasks slack jobs = (i : ℕ) → i < tasks.count → jobs.is_open i ≡ true → jobs.budget i + slack i ≤ jobs.left i
 
 -- No task has more slack than spare.
 unfoldable pub SlackFits : TaskSet → (slack : ℕ → ℕ) → Type 0
@@ -75,19 +75,19 @@ SlackFits tasks slack = (i : ℕ) → i < tasks.count → slack i ≤ spare task
 -- Every job has its shape, is in time, and has the bound by which it stays in time.
 pub record Invariant (tasks : TaskSet) (slack : ℕ → ℕ) (m : ℕ) (jobs : Jobs) : Type 0 where
   pub shape : (i : ℕ) → i < tasks.count → Shape tasks jobs i
-  pub in-time : (i : ℕ) → i < tasks.count → jobs.isOpen i ≡ true → jobs.budget i ≤ jobs.left i
-  pub bound : (k : ℕ) → k < tasks.count → jobs.isOpen k ≡ true → Bound tasks slack m jobs k
+  pub in_time : (i : ℕ) → i < tasks.count → jobs.is_open i ≡ true → jobs.budget i ≤ jobs.left i
+  pub bound : (k : ℕ) → k < tasks.count → jobs.is_open k ≡ true → Bound tasks slack m jobs k
 
 -- "A fresh machine has every task closed and all three numbers 0."
 pub record Fresh (tasks : TaskSet) (jobs : Jobs) : Type 0 where
   pub none : (i : ℕ) → i < tasks.count → NoJob jobs i
-  pub gap-none : (i : ℕ) → i < tasks.count → jobs.gap i ≡ 0
+  pub gap_none : (i : ℕ) → i < tasks.count → jobs.gap i ≡ 0
 
 -- One job is as it was.
 pub record SameJob (before after : Jobs) (i : ℕ) : Type 0 where
-  pub same-open : after.isOpen i ≡ before.isOpen i
+  pub same_open : after.is_open i ≡ before.is_open i
   pub same_left : after.left i ≡ before.left i
-  pub same-budget : after.budget i ≡ before.budget i
+  pub same_budget : after.budget i ≡ before.budget i
   pub same_gap : after.gap i ≡ before.gap i
 
 -- The jobs of all tasks but j are as they were.
@@ -97,36 +97,36 @@ RestSame tasks j before after = (i : ℕ) → i < tasks.count → (i ≡ j → �
 -- What the invariant says of one task.
 pub record Held (tasks : TaskSet) (slack : ℕ → ℕ) (m : ℕ) (jobs : Jobs) (i : ℕ) : Type 0 where
   pub shape : Shape tasks jobs i
-  pub in-time : jobs.isOpen i ≡ true → jobs.budget i ≤ jobs.left i
-  pub bound : jobs.isOpen i ≡ true → Bound tasks slack m jobs i
+  pub in_time : jobs.is_open i ≡ true → jobs.budget i ≤ jobs.left i
+  pub bound : jobs.is_open i ≡ true → Bound tasks slack m jobs i
 
 module _ {tasks : TaskSet} {slack : ℕ → ℕ} {m : ℕ} {jobs : Jobs} where
-  pub of-task : Invariant tasks slack m jobs → (i : ℕ) → i < tasks.count → Held tasks slack m jobs i
-  of-task inv i h = record { shape = inv.shape i h; in-time = inv.in-time i h; bound = inv.bound i h }
+  pub of_task_lem : Invariant tasks slack m jobs → (i : ℕ) → i < tasks.count → Held tasks slack m jobs i
+  of_task_lem inv i h = record { shape = inv.shape i h; in_time = inv.in_time i h; bound = inv.bound i h }
 
   pub invariant : ((i : ℕ) → i < tasks.count → Held tasks slack m jobs i) → Invariant tasks slack m jobs
-  invariant held = record { shape = λ i h. (held i h).shape; in-time = λ i h. (held i h).in-time; bound = λ k h. (held k h).bound }
+  invariant held = record { shape = λ i h. (held i h).shape; in_time = λ i h. (held i h).in_time; bound = λ k h. (held k h).bound }
 
-  module _ {i : ℕ} (gap-fits : jobs.gap i ≤ tasks.period i) where
-    pub held-open : jobs.isOpen i ≡ true →
+  module _ {i : ℕ} (gap_fits : jobs.gap i ≤ tasks.period i) where
+    pub held_open : jobs.is_open i ≡ true →
         OpenShape (tasks.period i) (tasks.budget i) (tasks.deadline i) (jobs.left i) (jobs.budget i) (jobs.gap i) →
         jobs.budget i ≤ jobs.left i →
         Bound tasks slack m jobs i →
         Held tasks slack m jobs i
-    held-open o shape in-time bound =
+    held_open o shape in_time bound =
         record {
-          shape = record { gap-fits = gap-fits; while-open = λ _. shape; while-closed = λ c. not-both (jobs.isOpen i) o c };
-          in-time = λ _. in-time;
+          shape = record { gap_fits = gap_fits; while_open = λ _. shape; while_closed = λ c. not_both (jobs.is_open i) o c };
+          in_time = λ _. in_time;
           bound = λ _. bound;
         }
 
-    pub held-closed : NoJob jobs i → Held tasks slack m jobs i
-    held-closed none =
+    pub held_closed : NoJob jobs i → Held tasks slack m jobs i
+    held_closed none =
         record {
-          shape = record { gap-fits = gap-fits; while-open = λ o. not-both (jobs.isOpen i) o none.closed; while-closed = λ _. none };
-          in-time = λ o. not-both (jobs.isOpen i) o none.closed;
-          bound = λ o. not-both (jobs.isOpen i) o none.closed;
+          shape = record { gap_fits = gap_fits; while_open = λ o. not_both (jobs.is_open i) o none.closed; while_closed = λ _. none };
+          in_time = λ o. not_both (jobs.is_open i) o none.closed;
+          bound = λ o. not_both (jobs.is_open i) o none.closed;
         }
 
-pub fresh-starts : (tasks : TaskSet) (slack : ℕ → ℕ) (m : ℕ) (jobs : Jobs) → Fresh tasks jobs → Invariant tasks slack m jobs
-fresh-starts tasks slack m jobs fresh = invariant (λ i h. held-closed (omega (arith, fresh.gap-none i h)) (fresh.none i h))
+pub fresh_starts : (tasks : TaskSet) (slack : ℕ → ℕ) (m : ℕ) (jobs : Jobs) → Fresh tasks jobs → Invariant tasks slack m jobs
+fresh_starts tasks slack m jobs fresh = invariant (λ i h. held_closed (omega (arith, fresh.gap_none i h)) (fresh.none i h))

@@ -4,9 +4,9 @@ use Rattle.edzl.specs.TaskSet.{TaskSet}
 
 -- "1 ≤ C ≤ D ≤ T", of one task.
 pub record TaskFits (period budget deadline : ℕ) : Type 0 where
-  pub budget-some : 1 ≤ budget
-  pub budget-fits : budget ≤ deadline
-  pub deadline-fits : deadline ≤ period
+  pub budget_some : 1 ≤ budget
+  pub budget_fits : budget ≤ deadline
+  pub deadline_fits : deadline ≤ period
 
 -- The same of every task of the set.
 unfoldable pub WellFormed : TaskSet → Type 0

@@ -15,25 +15,25 @@ unfoldable pub spare : TaskSet → ℕ → ℕ
 spare tasks k = tasks.deadline k - tasks.budget k
 
 -- The slack of each task in document 01's test: "with all slacks zero".
-unfoldable pub noSlack : ℕ → ℕ
-noSlack i = 0
+unfoldable pub no_slack : ℕ → ℕ
+no_slack i = 0
 
 -- "The sum of task k is the total, over every i other than k, of min(I_i(D_k), A_k)."; document 02, change 6: "each sum uses
--- I_i of max(0, D_k − S_i)" (`-` is 0 where S_i is the larger). Document 01's test has no slack (`noSlack`).
-unfoldable pub windowSum : TaskSet → (slack : ℕ → ℕ) → ℕ → ℕ
-windowSum tasks slack k =
+-- I_i of max(0, D_k − S_i)" (`-` is 0 where S_i is the larger). Document 01's test has no slack (`no_slack`).
+unfoldable pub window_sum : TaskSet → (slack : ℕ → ℕ) → ℕ → ℕ
+window_sum tasks slack k =
     sum_to tasks.count
     (others k
     (λ i. min (interference (tasks.period i) (tasks.budget i) (tasks.deadline k - slack i)) (spare tasks k)))
 
 -- "Task k may turn urgent on m cores when its sum is at least m·A_k."
-unfoldable pub mayTurnUrgent : TaskSet → (slack : ℕ → ℕ) → (m : ℕ) → ℕ → Bool
-mayTurnUrgent tasks slack m k = leb (m * spare tasks k) (windowSum tasks slack k)
+unfoldable pub may_turn_urgent : TaskSet → (slack : ℕ → ℕ) → (m : ℕ) → ℕ → Bool
+may_turn_urgent tasks slack m k = leb (m * spare tasks k) (window_sum tasks slack k)
 
 -- "COUNT is the number of tasks that may turn urgent."
-unfoldable pub countUrgent : TaskSet → (slack : ℕ → ℕ) → (m : ℕ) → ℕ
-countUrgent tasks slack m = sum_to tasks.count (λ k. bit (mayTurnUrgent tasks slack m k))
+unfoldable pub count_urgent : TaskSet → (slack : ℕ → ℕ) → (m : ℕ) → ℕ
+count_urgent tasks slack m = sum_to tasks.count (λ k. bit (may_turn_urgent tasks slack m k))
 
 -- "The table is admitted on m cores exactly when COUNT ≤ m."
 unfoldable pub admitted : TaskSet → (m : ℕ) → Bool
-admitted tasks m = leb (countUrgent tasks noSlack m) m
+admitted tasks m = leb (count_urgent tasks no_slack m) m

@@ -6,15 +6,15 @@ use Rattle.reader.specs.Reading.{reading}
 use Rattle.judge.specs.SlackJudge.{AdmissionValues, admission}
 
 -- "0 not admitted, 1 admitted, 100 plus the refusal number otherwise"
-unfoldable pub answerNumber : Outcome → (admits : Bool) → ℕ
-answerNumber Done admits = cond admits 1 0
-answerNumber (Refused number place) admits = 100 + number
+unfoldable pub answer_number : Outcome → (admits : Bool) → ℕ
+answer_number Done admits = cond admits 1 0
+answer_number (Refused number place) admits = 100 + number
 
 -- "The reading's refusals come before number 7.": the verdict, which may be that refusal, counts only where the text was read
-unfoldable pub answerAfter : Outcome → AdmissionValues → ℕ
-answerAfter Done verdict = answerNumber verdict.outcome verdict.admits
-answerAfter (Refused number place) verdict = 100 + number
+unfoldable pub answer_after : Outcome → AdmissionValues → ℕ
+answer_after Done verdict = answer_number verdict.outcome verdict.admits
+answer_after (Refused number place) verdict = 100 + number
 
 -- "A host in C passes the text and m as one number and gets one number"; change 6: "Joins and the C entry go by this test"
-unfoldable pub hostAnswer : List ℕ → (m : ℕ) → ℕ
-hostAnswer text m = answerAfter (reading text).outcome (admission (reading text).table m)
+unfoldable pub host_answer : List ℕ → (m : ℕ) → ℕ
+host_answer text m = answer_after (reading text).outcome (admission (reading text).table m)

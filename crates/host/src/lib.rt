@@ -1,6 +1,6 @@
 // The one entry for a host program in C.
 ghost use Rattle.std.specs.Prelude.{◌≡◌};
-ghost use Rattle.host.specs.Host.{hostAnswer};
+ghost use Rattle.host.specs.Host.{host_answer};
 
 use judge::admission::{Admission, admit_numbers};
 use reader::numbers::{Counted, read_numbers};
@@ -12,7 +12,7 @@ const REFUSED: u32 = 100;
 // 1 if the slack test admits the table of the text on this many cores, 0 if it does not, 100 plus the refusal's number otherwise.
 #[unsafe(no_mangle)]
 pub extern "C" fn edzl_admit(text: &[u8], cores: u32) -> u32
-    ensures { result ≡ hostAnswer text.now cores }
+    ensures { result ≡ host_answer text.now cores }
 {
     let mut periods = [0u32; MAX_TASKS];
     let mut budgets = [0u32; MAX_TASKS];

@@ -14,15 +14,15 @@ unpreceded q i zero = true
 unpreceded q i (suc n) = unpreceded q i n && not (q.waits n && q.precedes n i)
 
 -- an "open task that no unpicked one precedes"
-unfoldable pub isNext : Candidates → ℕ → Bool
-isNext q i = q.waits i && unpreceded q i q.count
+unfoldable pub is_next : Candidates → ℕ → Bool
+is_next q i = q.waits i && unpreceded q i q.count
 
 -- the number, from 1, of the first of the n tasks from index i on that is next; 0 where there is none
-unfoldable pub firstNext : Candidates → (i n : ℕ) → ℕ
-firstNext q i zero = 0
-firstNext q i (suc n) = cond (isNext q i) (suc i) (firstNext q (suc i) n)
+unfoldable pub first_next : Candidates → (i n : ℕ) → ℕ
+first_next q i zero = 0
+first_next q i (suc n) = cond (is_next q i) (suc i) (first_next q (suc i) n)
 
 -- "The search for the next runner ends at the first open task that no unpicked one precedes.": its number; 0 where there is none, which in a
 -- strict order is where no task waits
-unfoldable pub nextRunner : Candidates → ℕ
-nextRunner q = firstNext q 0 q.count
+unfoldable pub next_runner : Candidates → ℕ
+next_runner q = first_next q 0 q.count

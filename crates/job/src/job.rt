@@ -1,6 +1,6 @@
 // The record of one task's job.
 ghost use Rattle.std.specs.Prelude.{◌≡◌};
-ghost use Rattle.job.specs.Job.{freshJob, needInRange, releasedJob, closedJob, isUrgent};
+ghost use Rattle.job.specs.Job.{fresh_job, need_in_range, released_job, closed_job, is_urgent};
 
 use tasks::task::Task;
 
@@ -15,7 +15,7 @@ pub struct Job {
 
 // A closed job with all its numbers 0.
 pub fn fresh_job() -> Job
-    ensures { result ≡ freshJob }
+    ensures { result ≡ fresh_job }
 {
     Job {
         open: false,
@@ -27,7 +27,7 @@ pub fn fresh_job() -> Job
 
 // Whether a job of the task may need so many slots: 1 to the task's budget.
 pub fn need_in_range(task: Task, need: u32) -> bool
-    ensures { result ≡ needInRange task need }
+    ensures { result ≡ need_in_range task need }
 {
     if need < 1 {
         return false;
@@ -38,7 +38,7 @@ pub fn need_in_range(task: Task, need: u32) -> bool
 impl Job {
     // A job of the task that starts now and needs so many slots.
     pub fn released(task: Task, need: u32) -> Self
-        ensures { result ≡ releasedJob task need }
+        ensures { result ≡ released_job task need }
     {
         Job {
             open: true,
@@ -50,7 +50,7 @@ impl Job {
 
     // The job closed, its gap kept.
     pub fn closed(self) -> Self
-        ensures { result ≡ closedJob self }
+        ensures { result ≡ closed_job self }
     {
         let gap = self.gap;
         Job {
@@ -63,7 +63,7 @@ impl Job {
 
     // Whether the job has no time to spare.
     pub fn is_urgent(self) -> bool
-        ensures { result ≡ isUrgent self }
+        ensures { result ≡ is_urgent self }
     {
         if self.open {
             return self.left <= self.budget;

@@ -1,6 +1,6 @@
 // A job's rank, and precedence by ranks.
 ghost use Rattle.std.specs.Prelude.{◌≡◌};
-ghost use Rattle.job.specs.Rank.{alikeRank, rank, rankPrecedes};
+ghost use Rattle.job.specs.Rank.{alike_rank, rank, rank_precedes};
 
 use crate::job::Job;
 
@@ -19,7 +19,7 @@ pub const NEVER: u64 = 18_014_398_509_481_984;
 impl Job {
     // Its place among the jobs alike in urgency: smaller left, then larger budget.
     fn alike_rank(self) -> u64
-        ensures { result ≡ alikeRank self }
+        ensures { result ≡ alike_rank self }
     {
         SLOT_WEIGHT * self.left as u64 + (BUDGET_END - self.budget as u64)
     }
@@ -41,7 +41,7 @@ impl Job {
 
 // Whether the task of rank x at index i precedes the task of rank y at index j: of equal ranks the lower number goes first.
 pub fn precedes(x: u64, i: usize, y: u64, j: usize) -> bool
-    ensures { result ≡ rankPrecedes x i y j }
+    ensures { result ≡ rank_precedes x i y j }
 {
     if x == y {
         return i < j;

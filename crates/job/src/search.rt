@@ -1,6 +1,6 @@
 // The search for the next runner.
 ghost use Rattle.std.specs.Prelude.{◌≡◌};
-ghost use Rattle.job.specs.Search.{nextRunner};
+ghost use Rattle.job.specs.Search.{next_runner};
 ghost use Rattle.job.specs.Rank.{waits, ranked};
 
 use crate::rank::{NEVER, precedes};
@@ -15,7 +15,7 @@ fn waits(rank: u64) -> bool
 // The number, from 1, of the first open task that no unpicked one precedes, by the ranks of the tasks; 0 where no task waits. Closed and
 // picked tasks are passed over. A rival that precedes the candidate is the next candidate: it precedes all that were tried before.
 pub fn next_runner(ranks: &[u64]) -> usize
-    ensures { result ≡ nextRunner (ranked ranks.now) }
+    ensures { result ≡ next_runner (ranked ranks.now) }
 {
     let mut candidate: usize = 0;
     'candidates: while candidate < ranks.len() {

@@ -1,6 +1,6 @@
 // What a slot does to one job, in its steps 2 to 4.
 ghost use Rattle.std.specs.Prelude.{◌-◌, ◌≡◌};
-ghost use Rattle.job.specs.Slot.{charged, aged, isFinished, isLate, settled};
+ghost use Rattle.job.specs.Slot.{charged, aged, is_finished, is_late, settled};
 
 use crate::job::Job;
 
@@ -53,7 +53,7 @@ impl Job {
 
     // Step 4 of a slot: an open job that owes nothing is finished.
     pub fn is_finished(self) -> bool
-        ensures { result ≡ isFinished self }
+        ensures { result ≡ is_finished self }
     {
         if self.open {
             return self.budget == 0;
@@ -63,7 +63,7 @@ impl Job {
 
     // Step 4 of a slot: any other with no slot left is late.
     pub fn is_late(self) -> bool
-        ensures { result ≡ isLate self }
+        ensures { result ≡ is_late self }
     {
         if self.open {
             if self.budget == 0 {

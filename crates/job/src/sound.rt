@@ -1,6 +1,6 @@
 // Whether a job's record is sound.
 ghost use Rattle.std.specs.Prelude.{◌≡◌};
-ghost use Rattle.job.specs.Sound.{openSound, closedSound, jobSound};
+ghost use Rattle.job.specs.Sound.{open_sound, closed_sound, job_sound};
 
 use crate::job::Job;
 use tasks::task::Task;
@@ -8,7 +8,7 @@ use tasks::task::Task;
 impl Job {
     // Whether the record is one that a job of the task can have. The gap of an open one reaches to its deadline.
     pub fn is_sound(self, task: Task) -> bool
-        ensures { result ≡ jobSound task self }
+        ensures { result ≡ job_sound task self }
     {
         if task.period < self.gap {
             return false;
@@ -24,7 +24,7 @@ impl Job {
 
     // An open job has 1 to D slots left and owes 1 to C.
     fn open_sound(self, task: Task) -> bool
-        ensures { result ≡ openSound task self }
+        ensures { result ≡ open_sound task self }
     {
         if self.left < 1 {
             return false;
@@ -40,7 +40,7 @@ impl Job {
 
     // A closed one has none of either.
     fn closed_sound(self) -> bool
-        ensures { result ≡ closedSound self }
+        ensures { result ≡ closed_sound self }
     {
         if self.left != 0 {
             return false;

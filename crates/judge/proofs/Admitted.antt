@@ -1,62 +1,62 @@
--- What an admission says of the table. Others cite: `admission-outcome`, `admission-numbered` and `refused-admission`, of a refusal; `AdmissionIs` with
--- `judged-admission`, of one that was carried out; `SlackAdmits` with `admission-means`, of a table that is admitted; and `window-admitted`, that what the
+-- What an admission says of the table. Others cite: `admission_outcome`, `admission_numbered` and `refused_admission`, of a refusal; `AdmissionIs` with
+-- `judged_admission`, of one that was carried out; `SlackAdmits` with `admission_means`, of a table that is admitted; and `window_admitted`, that what the
 -- window test admits is admitted.
 use Prim.Native.Nat.{ℕ}
 use mathlib.Core.Path.{◌≡◌, refl, sym, ◌∙◌}
 use mathlib.Core.Bool.{Bool, true, false}
-use Rattle.laws.proofs.CaseSplits.{not-both}
+use Rattle.laws.proofs.CaseSplits.{not_both}
 use Rattle.tasks.specs.declared.table.Table.{Table}
 use Rattle.tasks.specs.declared.outcome.Outcome.TheVariants as Out
 use Rattle.tasks.specs.Check.{checked}
-use Rattle.tasks.proofs.Checked.{checked-numbered}
-use Rattle.tasks.proofs.OutcomeLaws.{by-outcome, Numbered}
-use Rattle.tasks.proofs.TaskSetLaws.{well-checked}
-use Rattle.edzl.specs.Slack.{slackAdmits}
-use Rattle.edzl.proofs.SlackRounds.{window-admits}
-use Rattle.tasks.specs.TaskSet.{tasksOf}
+use Rattle.tasks.proofs.Checked.{checked_numbered}
+use Rattle.tasks.proofs.OutcomeLaws.{by_outcome, Numbered}
+use Rattle.tasks.proofs.TaskSetLaws.{well_checked}
+use Rattle.edzl.specs.Slack.{slack_admits}
+use Rattle.edzl.proofs.SlackRounds.{window_admits}
+use Rattle.tasks.specs.TaskSet.{tasks_of}
 use Rattle.judge.specs.declared.admission.Admission.TheVariants.{Judged, Refused}
 use Rattle.judge.specs.Judge.{judged}
-use Rattle.judge.specs.SlackJudge.{refusedBySlack, slackJudgedAfter, slackJudged, admissionValuesOf, admission}
-use Rattle.judge.proofs.Outcome.{admits-means}
-use Rattle.judge.proofs.SlackOutcome.{slack-outcome}
+use Rattle.judge.specs.SlackJudge.{refused_by_slack, slack_judged_after, slack_judged, admission_values_of, admission}
+use Rattle.judge.proofs.Outcome.{admits_means}
+use Rattle.judge.proofs.SlackOutcome.{slack_outcome}
 
 -- an admission that was carried out
 pub record AdmissionIs (t : Table) (m : ℕ) (admits : Bool) : Type 0 where
   pub outcome : (admission t m).outcome ≡ Out.Done
-  pub admits-is : (admission t m).admits ≡ admits
+  pub admits_is : (admission t m).admits ≡ admits
 
 -- an admitted table can be judged and passes the slack test
 pub record SlackAdmits (t : Table) (m : ℕ) : Type 0 where
   pub checks : checked t m ≡ Out.Done
-  pub admits : slackAdmits (tasksOf t) m ≡ true
+  pub admits : slack_admits (tasks_of t) m ≡ true
 
 module _ (t : Table) (m : ℕ) where
   -- the refusals are those of judging
-  pub admission-outcome : (admission t m).outcome ≡ checked t m
+  pub admission_outcome : (admission t m).outcome ≡ checked t m
   unfolding admission
-  admission-outcome = slack-outcome t m
+  admission_outcome = slack_outcome t m
 
-  pub admission-numbered : Numbered (admission t m).outcome
-  admission-numbered = rw admission-outcome (checked-numbered t m)
+  pub admission_numbered : Numbered (admission t m).outcome
+  admission_numbered = rw admission_outcome (checked_numbered t m)
 
-  pub refused-admission : (number place : ℕ) → admissionValuesOf (Refused number place) ≡ admission t m → checked t m ≡ Out.Refused number place
-  unfolding admissionValuesOf
-  refused-admission number place e = sym admission-outcome ∙ rw (← e)
+  pub refused_admission : (number place : ℕ) → admission_values_of (Refused number place) ≡ admission t m → checked t m ≡ Out.Refused number place
+  unfolding admission_values_of
+  refused_admission number place e = sym admission_outcome ∙ rw (← e)
 
-  pub judged-admission : (admits : Bool) → admissionValuesOf (Judged admits) ≡ admission t m → AdmissionIs t m admits
-  unfolding admissionValuesOf
-  judged-admission admits e = record { outcome = rw (← e); admits-is = rw (← e) }
+  pub judged_admission : (admits : Bool) → admission_values_of (Judged admits) ≡ admission t m → AdmissionIs t m admits
+  unfolding admission_values_of
+  judged_admission admits e = record { outcome = rw (← e); admits_is = rw (← e) }
 
-  pub admission-means : (admission t m).admits ≡ true → SlackAdmits t m
-  unfolding admission slackJudged slackJudgedAfter refusedBySlack
-  admission-means h =
-      by-outcome (checked t m)
+  pub admission_means : (admission t m).admits ≡ true → SlackAdmits t m
+  unfolding admission slack_judged slack_judged_after refused_by_slack
+  admission_means h =
+      by_outcome (checked t m)
       (λ e. record { checks = e; admits = rw e at h })
-      (λ number place e. not-both false (rw e at h) refl)
+      (λ number place e. not_both false (rw e at h) refl)
 
   -- "What the window test admits, this one admits."
-  pub window-admitted : (judged t m).admits ≡ true → (admission t m).admits ≡ true
-  unfolding admission slackJudged slackJudgedAfter
-  window-admitted h =
-      let means = admits-means t m h in
-      rw means.checks (window-admits (tasksOf t) m (well-checked t m means.checks) means.admits)
+  pub window_admitted : (judged t m).admits ≡ true → (admission t m).admits ≡ true
+  unfolding admission slack_judged slack_judged_after
+  window_admitted h =
+      let means = admits_means t m h in
+      rw means.checks (window_admits (tasks_of t) m (well_checked t m means.checks) means.admits)

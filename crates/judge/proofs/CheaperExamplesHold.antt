@@ -1,17 +1,17 @@
 -- The examples of cheaper tables, and of longer deadlines, all hold: antt computes every entry of the list.
 use mathlib.Core.Path.{◌≡◌, refl}
 use mathlib.Core.Bool.{true}
-use Rattle.laws.specs.Examples.{same_numbers, allTrue}
-use Rattle.tasks.specs.Numbers.{periodsOf}
-use Rattle.tasks.specs.Trimmed.{withBudget, withPeriod, list_of, withoutTask, chosen, chosenTable}
-use Rattle.tasks.proofs.Computing.{computingTables}
-use Rattle.judge.specs.SlackExamples.{slackOn, isRefusal, fourTasks}
-use Rattle.judge.specs.CheaperExamples.{windowOn, judgingRefused, periodsAre, exampleTable, roomBySlack, cheaperExamples}
-use Rattle.judge.proofs.Computing.{computingVerdicts}
+use Rattle.laws.specs.Examples.{same_numbers, all_true}
+use Rattle.tasks.specs.Numbers.{periods_of}
+use Rattle.tasks.specs.Trimmed.{with_budget, with_period, list_of, without_task, chosen, chosen_table}
+use Rattle.tasks.proofs.Computing.{computing_tables}
+use Rattle.judge.specs.SlackExamples.{slack_on, is_refusal, four_tasks}
+use Rattle.judge.specs.CheaperExamples.{window_on, judging_refused, periods_are, example_table, room_by_slack, cheaper_examples}
+use Rattle.judge.proofs.Computing.{computing_verdicts}
 
-pub cheaper-examples-hold : allTrue cheaperExamples ≡ true
+pub cheaper_examples_hold : all_true cheaper_examples ≡ true
 unfolding
-    computingVerdicts computingTables allTrue same_numbers periodsOf
-    withBudget withPeriod list_of withoutTask chosen chosenTable
-    slackOn isRefusal fourTasks windowOn judgingRefused periodsAre exampleTable roomBySlack cheaperExamples
-cheaper-examples-hold = refl
+    computing_verdicts computing_tables all_true same_numbers periods_of
+    with_budget with_period list_of without_task chosen chosen_table
+    slack_on is_refusal four_tasks window_on judging_refused periods_are example_table room_by_slack cheaper_examples
+cheaper_examples_hold = refl

@@ -1,5 +1,5 @@
 -- Why a part is exact where its whole periods are guessed. The guess is the upper half of the window times the period's inverse: the quotient of the
--- two, or one less. Others cite `guessed` with `Guessed` and `half`, and for the range `product-fits`.
+-- two, or one less. Others cite `guessed` with `Guessed` and `half`, and for the range `product_fits`.
 use Prim.Native.Nat.{ℕ, suc, ◌+◌, ◌*◌, ◌-◌, ◌/◌, ◌%◌, ◌^◌, ◌≤◌, ◌<◌, min}
 use mathlib.Core.Path.{◌≡◌, sym}
 use native.Mathlib.Nat.{mul-le-mul, mul-le-mul_left, mul_comm, mul_left_comm, le_of_mul-le-mul_left, lt_of_mul-lt-mul_left}
@@ -8,7 +8,7 @@ use native.Mathlib.Omega.{arith}
 use Rattle.laws.proofs.CaseSplits.{by_order}
 use Rattle.edzl.specs.Window.{interference}
 use Rattle.edzl.proofs.InterferenceLaws.{staircase}
-use Rattle.judge.specs.Listed.{inverseOf}
+use Rattle.judge.specs.Listed.{inverse_of}
 
 -- What the lower half of a product is cut off by.
 abbrev pub half : ℕ
@@ -19,19 +19,19 @@ pub record Guessed (T C L S g : ℕ) : Type 0 where
   pub small : g ≤ L
   pub within : g * T ≤ L
   pub budgets : g * C ≤ g * T
-  pub part-is : min (g * C + min C (L - g * T) + min C (L - g * T - T)) S ≡ min (interference T C L) S
+  pub part_is : min (g * C + min C (L - g * T) + min C (L - g * T - T)) S ≡ min (interference T C L) S
 
-inverse-fits : (T : ℕ) → inverseOf T < half
-inverse-fits T = omega (arith, div-le_self 4_294_967_295 T)
+inverse_fits : (T : ℕ) → inverse_of T < half
+inverse_fits T = omega (arith, div-le_self 4_294_967_295 T)
 
 -- The inverse times the period is below 2^32, by at most the period.
-next-below : (T : ℕ) → 1 ≤ T → (T * inverseOf T < half) × (half ≤ T * inverseOf T + T)
-next-below T T-some = omega (arith, div-add-mod' 4_294_967_295 T, mod-lt 4_294_967_295 T-some, mul_comm (inverseOf T) T)
+next_below : (T : ℕ) → 1 ≤ T → (T * inverse_of T < half) × (half ≤ T * inverse_of T + T)
+next_below T t_some = omega (arith, div-add-mod' 4_294_967_295 T, mod-lt 4_294_967_295 t_some, mul_comm (inverse_of T) T)
 
-module _ (T C L : ℕ) (T-some : 1 ≤ T) (C-fits : C ≤ T) (L-fits : L ≤ 1_000_000) where
-  pub product-fits : L * inverseOf T ≤ 1_000_000 * half
-  product-fits =
-      let h : inverseOf T ≤ half = omega (arith, inverse-fits T) in
+module _ (T C L : ℕ) (t_some : 1 ≤ T) (c_fits : C ≤ T) (L-fits : L ≤ 1_000_000) where
+  pub product_fits : L * inverse_of T ≤ 1_000_000 * half
+  product_fits =
+      let h : inverse_of T ≤ half = omega (arith, inverse_fits T) in
       mul-le-mul L-fits h
 
   -- No more whole periods than fit, and at most one too few.
@@ -39,11 +39,11 @@ module _ (T C L : ℕ) (T-some : 1 ≤ T) (C-fits : C ≤ T) (L-fits : L ≤ 1_0
     pub low : g * T ≤ L
     pub high : L < g * T + (T + T)
 
-  near : Near (L * inverseOf T / half)
+  near : Near (L * inverse_of T / half)
   near =
-      let E = inverseOf T in
+      let E = inverse_of T in
       let g = L * E / half in
-      let below = next-below T T-some in
+      let below = next_below T t_some in
       let cut : L * E ≡ g * half + L * E % half = sym (div-add-mod' (L * E) half) in
       let rest : L * E % half < half = mod-lt (L * E) (omega arith) in
       let swap : T * (L * E) ≡ L * (T * E) = mul_left_comm T L E in
@@ -59,17 +59,17 @@ module _ (T C L : ℕ) (T-some : 1 ≤ T) (C-fits : C ≤ T) (L-fits : L ≤ 1_0
             (omega (arith, swap, mul-le-mul_left T product_high, mul-le-mul_left L E-more, mul-le-mul_left T L-small));
       }
 
-  pub guessed : (S E : ℕ) → E ≡ inverseOf T → Guessed T C L S (L * E / half)
+  pub guessed : (S E : ℕ) → E ≡ inverse_of T → Guessed T C L S (L * E / half)
   guessed S E e =
       rw e
-      (let g = L * inverseOf T / half in
+      (let g = L * inverse_of T / half in
       let n = near in
       record {
-        small = omega (arith, n.low, mul-le-mul_left g T-some);
+        small = omega (arith, n.low, mul-le-mul_left g t_some);
         within = n.low;
-        budgets = mul-le-mul_left g C-fits;
-        part-is =
+        budgets = mul-le-mul_left g c_fits;
+        part_is =
             by_order T (L - g * T)
-            (λ full. omega (arith, n.low, n.high, staircase T C T-some C-fits (suc g) (L - g * T - T) L (omega (arith, n.low, n.high)) (omega (arith, n.low, n.high))))
-            (λ part. omega (arith, n.low, staircase T C T-some C-fits g (L - g * T) L (omega (arith, n.low)) (omega arith)));
+            (λ full. omega (arith, n.low, n.high, staircase T C t_some c_fits (suc g) (L - g * T - T) L (omega (arith, n.low, n.high)) (omega (arith, n.low, n.high))))
+            (λ part. omega (arith, n.low, staircase T C t_some c_fits g (L - g * T) L (omega (arith, n.low)) (omega arith)));
       })

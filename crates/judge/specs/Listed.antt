@@ -2,14 +2,14 @@
 use Rattle.std.specs.Prelude.{ℕ, ◌/◌, ◌≤◌, ◌<◌, ◌≡◌, List, get_or}
 use Rattle.edzl.specs.TaskSet.{TaskSet}
 use Rattle.tasks.specs.declared.task.Task.{Task}
-use Rattle.tasks.specs.Limits.{maxPeriod}
-use Rattle.tasks.specs.Table.{zeroTask}
+use Rattle.tasks.specs.Limits.{max_period}
+use Rattle.tasks.specs.Table.{zero_task}
 
 -- The lists have the numbers of the first n tasks.
 pub record SameNumbers (tasks : List Task) (n : ℕ) (periods budgets deadlines : List ℕ) : Type 0 where
-  pub same-period : (i : ℕ) → i < n → get_or periods i 0 ≡ (get_or tasks i zeroTask).period
-  pub same-budget : (i : ℕ) → i < n → get_or budgets i 0 ≡ (get_or tasks i zeroTask).budget
-  pub same-deadline : (i : ℕ) → i < n → get_or deadlines i 0 ≡ (get_or tasks i zeroTask).deadline
+  pub same_period : (i : ℕ) → i < n → get_or periods i 0 ≡ (get_or tasks i zero_task).period
+  pub same_budget : (i : ℕ) → i < n → get_or budgets i 0 ≡ (get_or tasks i zero_task).budget
+  pub same_deadline : (i : ℕ) → i < n → get_or deadlines i 0 ≡ (get_or tasks i zero_task).deadline
 
 -- The first n tasks of three lists.
 abbrev pub listed : (periods budgets deadlines : List ℕ) (n : ℕ) → TaskSet
@@ -23,8 +23,8 @@ Ranges n periods budgets deadlines =
     → (1 ≤ get_or budgets i 0)
     × (get_or budgets i 0 ≤ get_or deadlines i 0)
     × (get_or deadlines i 0 ≤ get_or periods i 0)
-    × (get_or periods i 0 ≤ maxPeriod)
+    × (get_or periods i 0 ≤ max_period)
 
 -- The inverse of a period: the largest number of 32 bits divided by it, rounded down.
-abbrev pub inverseOf : ℕ → ℕ
-inverseOf period = 4_294_967_295 / period
+abbrev pub inverse_of : ℕ → ℕ
+inverse_of period = 4_294_967_295 / period

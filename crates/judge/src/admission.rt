@@ -1,10 +1,10 @@
 // Whether the slack test admits a table, by which offers and the entry for a host go: document 02, changes 6 and 10.
 ghost use Rattle.std.specs.Prelude.{◌≤◌, ◌≡◌};
-ghost use Rattle.tasks.specs.Limits.{maxTasks, maxCores};
-ghost use Rattle.tasks.specs.Numbers.{tableFrom};
-ghost use Rattle.edzl.specs.Slack.{slackAdmits};
+ghost use Rattle.tasks.specs.Limits.{max_tasks, max_cores};
+ghost use Rattle.tasks.specs.Numbers.{table_from};
+ghost use Rattle.edzl.specs.Slack.{slack_admits};
 ghost use Rattle.judge.specs.Listed.{listed, Ranges};
-ghost use Rattle.judge.specs.SlackJudge.{admissionValuesOf, admission};
+ghost use Rattle.judge.specs.SlackJudge.{admission_values_of, admission};
 
 use crate::numbers::numbers_of;
 use crate::rounds::last_round;
@@ -25,7 +25,7 @@ pub enum Admission {
 impl Admission {
     // Whether judging was carried out, or the refusal's number and place.
     pub fn outcome(self) -> Outcome
-        ensures { result ≡ (admissionValuesOf self).outcome }
+        ensures { result ≡ (admission_values_of self).outcome }
     {
         match self {
             Admission::Judged { admitted: _ } => Outcome::Done,
@@ -42,9 +42,9 @@ fn admits<'a>(
     count: usize,
     cores: u32,
 ) -> bool
-    requires count_le_max_tasks { (count ≤ maxTasks) × (1 ≤ cores) × (cores ≤ maxCores) }
+    requires count_le_max_tasks { (count ≤ max_tasks) × (1 ≤ cores) × (cores ≤ max_cores) }
     requires ranges { Ranges count periods.now budgets.now deadlines.now }
-    ensures { result ≡ slackAdmits (listed periods.now budgets.now deadlines.now count) cores }
+    ensures { result ≡ slack_admits (listed periods.now budgets.now deadlines.now count) cores }
 {
     let mut sums = [0u32; MAX_TASKS];
     window_sums(periods, budgets, deadlines, &mut sums, count);
@@ -59,7 +59,7 @@ fn admits<'a>(
 
 // Whether a table is admitted on a number of cores.
 pub fn admit(table: Table, cores: u32) -> Admission
-    ensures { admissionValuesOf result ≡ admission table cores }
+    ensures { admission_values_of result ≡ admission table cores }
 {
     let outcome = check(table, cores);
     if let Outcome::Refused { number, place } = outcome {
@@ -85,8 +85,8 @@ pub fn admit_numbers<'a>(
     count: usize,
     cores: u32,
 ) -> Admission
-    ensures { admissionValuesOf result
-        ≡ admission (tableFrom periods.now budgets.now deadlines.now count) cores }
+    ensures { admission_values_of result
+        ≡ admission (table_from periods.now budgets.now deadlines.now count) cores }
 {
     let outcome = check_numbers(periods, budgets, deadlines, count, cores);
     if let Outcome::Refused { number, place } = outcome {

@@ -1,9 +1,9 @@
 // The sums of few tasks, added up anew in each round with a division for each part: where they are so few, that is faster than sums.rt.
 ghost use Rattle.std.specs.Prelude.{◌+◌, ◌≤◌, ◌<◌, ◌≡◌, length, get_or};
-ghost use Rattle.tasks.specs.Limits.{maxTasks, maxPeriod};
-ghost use Rattle.edzl.specs.Window.{windowSum};
+ghost use Rattle.tasks.specs.Limits.{max_tasks, max_period};
+ghost use Rattle.edzl.specs.Window.{window_sum};
 ghost use Rattle.judge.specs.Listed.{listed, Ranges};
-ghost use Rattle.judge.specs.Parts.{part, ownPart, SumsWithOwn};
+ghost use Rattle.judge.specs.Parts.{part, own_part, SumsWithOwn};
 
 use edzl::{min, own_part, saturating_sub};
 use tasks::table::PerTask;
@@ -13,7 +13,7 @@ pub(crate) const FEW_TASKS: usize = 3;
 
 // What a task counts for in the sum of one with this window and this spare.
 fn divided_part(period: u32, budget: u32, window: u32, spare: u32) -> u32
-    requires { (1 ≤ period) × (budget ≤ period) × (window ≤ maxPeriod) }
+    requires { (1 ≤ period) × (budget ≤ period) × (window ≤ max_period) }
     ensures { result ≡ part period budget window spare }
 {
     let whole = window / period;
@@ -30,11 +30,11 @@ fn sum_of<'a>(
     count: usize,
     k: usize,
 ) -> u32
-    requires count_le_max_tasks { (count ≤ maxTasks) × (k < count) }
+    requires count_le_max_tasks { (count ≤ max_tasks) × (k < count) }
     requires ranges { Ranges count periods.now budgets.now deadlines.now }
     ensures { result
-        ≡ windowSum (listed periods.now budgets.now deadlines.now count) (λ i. get_or slacks.now i 0) k
-        + ownPart (get_or budgets.now k 0) (get_or deadlines.now k 0) }
+        ≡ window_sum (listed periods.now budgets.now deadlines.now count) (λ i. get_or slacks.now i 0) k
+        + own_part (get_or budgets.now k 0) (get_or deadlines.now k 0) }
 {
     let deadline = deadlines[k];
     let spare = deadline - budgets[k];
@@ -59,9 +59,9 @@ pub(crate) fn sums_anew<'a>(
     sums: &mut PerTask,
     count: usize,
 )
-    requires count_le_max_tasks { (count ≤ maxTasks) × (length sums.old ≡ maxTasks) }
+    requires count_le_max_tasks { (count ≤ max_tasks) × (length sums.old ≡ max_tasks) }
     requires ranges { Ranges count periods.now budgets.now deadlines.now }
-    ensures sums_len { length sums.new ≡ maxTasks }
+    ensures sums_len { length sums.new ≡ max_tasks }
     ensures sums_with_own { SumsWithOwn (listed periods.now budgets.now deadlines.now count)
         (λ i. get_or slacks.now i 0) sums.new }
 {

@@ -1,6 +1,6 @@
 // A table's numbers in flat arrays, which can be lent: an array of tasks would be copied at each call.
 ghost use Rattle.std.specs.Prelude.{◌≤◌};
-ghost use Rattle.tasks.specs.Limits.{maxTasks};
+ghost use Rattle.tasks.specs.Limits.{max_tasks};
 ghost use Rattle.judge.specs.Listed.{SameNumbers};
 
 use tasks::limits::MAX_TASKS;
@@ -17,7 +17,7 @@ pub(crate) struct Numbers {
 
 // The numbers of the first `count` tasks.
 pub(crate) fn numbers_of(tasks: [Task; MAX_TASKS], count: usize) -> Numbers
-    requires { count ≤ maxTasks }
+    requires { count ≤ max_tasks }
     ensures { SameNumbers tasks count result.periods result.budgets result.deadlines }
 {
     let mut numbers = Numbers {

@@ -1,11 +1,11 @@
 // The rounds of the slack test: document 02, change 6.
 ghost use Rattle.std.specs.Prelude.{ℕ, ◌-◌, ◌≤◌, ◌<◌, ◌≡◌, not, eqb, length, get_or};
-ghost use Rattle.tasks.specs.Limits.{maxTasks, maxCores, maxPeriod};
+ghost use Rattle.tasks.specs.Limits.{max_tasks, max_cores, max_period};
 ghost use Rattle.laws.specs.Sums.{sum_to, bit};
-ghost use Rattle.edzl.specs.Window.{noSlack};
-ghost use Rattle.edzl.specs.Slack.{newSlack, allRounds};
+ghost use Rattle.edzl.specs.Window.{no_slack};
+ghost use Rattle.edzl.specs.Slack.{new_slack, all_rounds};
 ghost use Rattle.judge.specs.Listed.{listed, Ranges};
-ghost use Rattle.judge.specs.Parts.{spareAt, ownPart, SumsWithOwn, LastSumsWithOwn};
+ghost use Rattle.judge.specs.Parts.{spare_at, own_part, SumsWithOwn, LastSumsWithOwn};
 
 use crate::sums::next_sums;
 use edzl::{own_part, saturating_sub};
@@ -18,9 +18,9 @@ const MAX_ROUNDS: u32 = 64;
 // The slack that a sum gives: what the sum lacks, divided by the cores and rounded up, which is 0 where the sum reaches. The sum
 // counts the task itself too. The compiler makes no branch of it.
 fn slack_of(budget: u32, deadline: u32, sum: u32, cores: u32) -> u32
-    requires budget_le_deadline { (budget ≤ deadline) × (deadline ≤ maxPeriod) × (1 ≤ cores) × (cores ≤ maxCores) }
-    requires deadline_bound { ownPart budget deadline ≤ sum }
-    ensures { result ≡ newSlack cores (deadline - budget) (sum - ownPart budget deadline) }
+    requires budget_le_deadline { (budget ≤ deadline) × (deadline ≤ max_period) × (1 ≤ cores) × (cores ≤ max_cores) }
+    requires deadline_bound { own_part budget deadline ≤ sum }
+    ensures { result ≡ new_slack cores (deadline - budget) (sum - own_part budget deadline) }
 {
     let spare = deadline - budget;
     let needed = cores * spare + own_part(budget, spare);
@@ -36,16 +36,16 @@ fn next_slacks<'a>(
     count: usize,
     cores: u32,
 ) -> u32
-    requires count_le_max_tasks { (count ≤ maxTasks) × (length slacks.old ≡ maxTasks) × (1 ≤ cores) × (cores ≤ maxCores) }
+    requires count_le_max_tasks { (count ≤ max_tasks) × (length slacks.old ≡ max_tasks) × (1 ≤ cores) × (cores ≤ max_cores) }
     requires by_index { (k : ℕ) → k < count →
         (get_or budgets.now k 0 ≤ get_or deadlines.now k 0)
-        × (get_or deadlines.now k 0 ≤ maxPeriod)
-        × (ownPart (get_or budgets.now k 0) (get_or deadlines.now k 0) ≤ get_or sums.now k 0) }
-    ensures slacks_len { length slacks.new ≡ maxTasks }
+        × (get_or deadlines.now k 0 ≤ max_period)
+        × (own_part (get_or budgets.now k 0) (get_or deadlines.now k 0) ≤ get_or sums.now k 0) }
+    ensures slacks_len { length slacks.new ≡ max_tasks }
     ensures by_index_2 { (k : ℕ) → k < count →
         get_or slacks.new k 0
-        ≡ newSlack cores (spareAt budgets.now deadlines.now k)
-        (get_or sums.now k 0 - ownPart (get_or budgets.now k 0) (get_or deadlines.now k 0)) }
+        ≡ new_slack cores (spare_at budgets.now deadlines.now k)
+        (get_or sums.now k 0 - own_part (get_or budgets.now k 0) (get_or deadlines.now k 0)) }
     ensures value { result ≡ sum_to count (λ k. bit (not (eqb (get_or slacks.old k 0) (get_or slacks.new k 0)))) }
 {
     let mut changed: u32 = 0;
@@ -70,10 +70,10 @@ pub(crate) fn last_round<'a>(
     count: usize,
     cores: u32,
 ) -> u32
-    requires count_le_max_tasks { (count ≤ maxTasks) × (length sums.old ≡ maxTasks) × (1 ≤ cores) × (cores ≤ maxCores) }
+    requires count_le_max_tasks { (count ≤ max_tasks) × (length sums.old ≡ max_tasks) × (1 ≤ cores) × (cores ≤ max_cores) }
     requires ranges { Ranges count periods.now budgets.now deadlines.now }
-    requires sums_with_own { SumsWithOwn (listed periods.now budgets.now deadlines.now count) noSlack sums.old }
-    ensures value { result ≡ (allRounds (listed periods.now budgets.now deadlines.now count) cores).made }
+    requires sums_with_own { SumsWithOwn (listed periods.now budgets.now deadlines.now count) no_slack sums.old }
+    ensures value { result ≡ (all_rounds (listed periods.now budgets.now deadlines.now count) cores).made }
     ensures last_sums_with_own { LastSumsWithOwn (listed periods.now budgets.now deadlines.now count) cores sums.new }
 {
     let mut before = [0u32; MAX_TASKS];

@@ -1,11 +1,11 @@
 // The slack test of a table: document 02, change 6.
 ghost use Rattle.std.specs.Prelude.{ℕ, ◌≤◌, ◌<◌, ◌≡◌, true, get_or};
-ghost use Rattle.tasks.specs.Limits.{maxTasks, maxCores};
+ghost use Rattle.tasks.specs.Limits.{max_tasks, max_cores};
 ghost use Rattle.tasks.specs.Task.{in_range};
-ghost use Rattle.tasks.specs.Table.{zeroTask};
-ghost use Rattle.tasks.specs.TaskSet.{firstTasks};
-ghost use Rattle.edzl.specs.Slack.{allRounds, slackAdmits};
-ghost use Rattle.judge.specs.SlackJudge.{slackValuesOf, slackJudged};
+ghost use Rattle.tasks.specs.Table.{zero_task};
+ghost use Rattle.tasks.specs.TaskSet.{first_tasks};
+ghost use Rattle.edzl.specs.Slack.{all_rounds, slack_admits};
+ghost use Rattle.judge.specs.SlackJudge.{slack_values_of, slack_judged};
 
 use crate::numbers::numbers_of;
 use crate::rounds::last_round;
@@ -27,7 +27,7 @@ pub enum SlackVerdict {
 impl SlackVerdict {
     // Whether the test was carried out, or the refusal's number and place.
     pub fn outcome(self) -> Outcome
-        ensures { result ≡ (slackValuesOf self).outcome }
+        ensures { result ≡ (slack_values_of self).outcome }
     {
         match self {
             SlackVerdict::Judged {
@@ -40,7 +40,7 @@ impl SlackVerdict {
 
     // The rounds made: 0 where the test was refused.
     pub fn rounds(self) -> u32
-        ensures { result ≡ (slackValuesOf self).rounds }
+        ensures { result ≡ (slack_values_of self).rounds }
     {
         match self {
             SlackVerdict::Judged {
@@ -56,7 +56,7 @@ impl SlackVerdict {
 
     // Whether the table is admitted: not where the test was refused.
     pub fn admits(self) -> bool
-        ensures { result ≡ (slackValuesOf self).admits }
+        ensures { result ≡ (slack_values_of self).admits }
     {
         match self {
             SlackVerdict::Judged {
@@ -80,10 +80,10 @@ struct Slack {
 
 // The rounds of the first `count` tasks, and whether at most `cores` sums of the last one reach.
 fn slack_of_tasks(tasks: [Task; MAX_TASKS], count: usize, cores: u32) -> Slack
-    requires count_le_max_tasks { (count ≤ maxTasks) × (1 ≤ cores) × (cores ≤ maxCores) }
-    requires by_index { (i : ℕ) → i < count → in_range (get_or tasks i zeroTask) ≡ true }
-    ensures rounds_value { result.rounds ≡ (allRounds (firstTasks tasks count) cores).made }
-    ensures admitted_value { result.admitted ≡ slackAdmits (firstTasks tasks count) cores }
+    requires count_le_max_tasks { (count ≤ max_tasks) × (1 ≤ cores) × (cores ≤ max_cores) }
+    requires by_index { (i : ℕ) → i < count → in_range (get_or tasks i zero_task) ≡ true }
+    ensures rounds_value { result.rounds ≡ (all_rounds (first_tasks tasks count) cores).made }
+    ensures admitted_value { result.admitted ≡ slack_admits (first_tasks tasks count) cores }
 {
     let numbers = numbers_of(tasks, count);
     let mut sums = [0u32; MAX_TASKS];
@@ -111,7 +111,7 @@ fn slack_of_tasks(tasks: [Task; MAX_TASKS], count: usize, cores: u32) -> Slack
 
 // The verdict of the slack test on a table and a number of cores.
 pub fn judge_by_slack(table: Table, cores: u32) -> SlackVerdict
-    ensures { slackValuesOf result ≡ slackJudged table cores }
+    ensures { slack_values_of result ≡ slack_judged table cores }
 {
     let outcome = check(table, cores);
     if let Outcome::Refused { number, place } = outcome {

@@ -1,11 +1,11 @@
 // The sums of the window test, and of a round from those of the round before, of all tasks at once. Each counts the task
 // itself too: the tests allow for that.
 ghost use Rattle.std.specs.Prelude.{ℕ, ◌+◌, ◌-◌, ◌*◌, ◌≤◌, ◌<◌, ◌≡◌, length, get_or};
-ghost use Rattle.tasks.specs.Limits.{maxTasks, maxPeriod};
-ghost use Rattle.edzl.specs.Window.{noSlack};
+ghost use Rattle.tasks.specs.Limits.{max_tasks, max_period};
+ghost use Rattle.edzl.specs.Window.{no_slack};
 ghost use Rattle.laws.specs.Sums.{sum_to};
-ghost use Rattle.judge.specs.Listed.{listed, Ranges, inverseOf};
-ghost use Rattle.judge.specs.Parts.{part, part_of, spareAt, SumsWithOwn};
+ghost use Rattle.judge.specs.Listed.{listed, Ranges, inverse_of};
+ghost use Rattle.judge.specs.Parts.{part, part_of, spare_at, SumsWithOwn};
 
 use crate::few::{FEW_TASKS, sums_anew};
 use edzl::{min, saturating_sub};
@@ -16,7 +16,7 @@ use tasks::table::PerTask;
 // division here spares one for every window.
 fn inverse_of(period: u32) -> u32
     requires { 1 ≤ period }
-    ensures { result ≡ inverseOf period }
+    ensures { result ≡ inverse_of period }
 {
     4_294_967_295 / period
 }
@@ -24,8 +24,8 @@ fn inverse_of(period: u32) -> u32
 // What a task counts for in the sum of one with this window and this spare. The guess of the whole periods may be one too low: then
 // what is left has one more in it.
 fn part_of(period: u32, budget: u32, inverse: u32, window: u32, spare: u32) -> u32
-    requires le_period { (1 ≤ period) × (period ≤ maxPeriod) × (budget ≤ period) × (window ≤ maxPeriod) }
-    requires inverse_value { inverse ≡ inverseOf period }
+    requires le_period { (1 ≤ period) × (period ≤ max_period) × (budget ≤ period) × (window ≤ max_period) }
+    requires inverse_value { inverse ≡ inverse_of period }
     ensures { result ≡ part period budget window spare }
 {
     let guess = (window as u64 * inverse as u64 >> 32) as u32;
@@ -44,16 +44,16 @@ fn add_parts(
     sums: &mut PerTask,
     count: usize,
 )
-    requires le_period { (1 ≤ period) × (period ≤ maxPeriod) × (budget ≤ period) }
-    requires count_le_max_tasks { (count ≤ maxTasks) × (length sums.old ≡ maxTasks) }
+    requires le_period { (1 ≤ period) × (period ≤ max_period) × (budget ≤ period) }
+    requires count_le_max_tasks { (count ≤ max_tasks) × (length sums.old ≡ max_tasks) }
     requires by_index { (k : ℕ) → k < count → get_or budgets.now k 0 ≤ get_or deadlines.now k 0 }
-    requires by_index_2 { (k : ℕ) → k < count → get_or deadlines.now k 0 ≤ maxPeriod }
-    requires by_index_3 { (k : ℕ) → k < count → get_or sums.old k 0 ≤ maxTasks * maxPeriod }
-    ensures sums_len { length sums.new ≡ maxTasks }
+    requires by_index_2 { (k : ℕ) → k < count → get_or deadlines.now k 0 ≤ max_period }
+    requires by_index_3 { (k : ℕ) → k < count → get_or sums.old k 0 ≤ max_tasks * max_period }
+    ensures sums_len { length sums.new ≡ max_tasks }
     ensures by_index_4 { (k : ℕ) → k < count →
         get_or sums.new k 0
         ≡ get_or sums.old k 0
-        + part period budget (get_or deadlines.now k 0) (spareAt budgets.now deadlines.now k) }
+        + part period budget (get_or deadlines.now k 0) (spare_at budgets.now deadlines.now k) }
 {
     let inverse = inverse_of(period);
     let mut k: usize = 0;
@@ -73,11 +73,11 @@ pub(crate) fn window_sums<'a>(
     sums: &mut PerTask,
     count: usize,
 )
-    requires count_le_max_tasks { (count ≤ maxTasks) × (length sums.old ≡ maxTasks) }
+    requires count_le_max_tasks { (count ≤ max_tasks) × (length sums.old ≡ max_tasks) }
     requires ranges { Ranges count periods.now budgets.now deadlines.now }
     requires by_index { (k : ℕ) → k < count → get_or sums.old k 0 ≡ 0 }
-    ensures sums_len { length sums.new ≡ maxTasks }
-    ensures sums_with_own { SumsWithOwn (listed periods.now budgets.now deadlines.now count) noSlack sums.new }
+    ensures sums_len { length sums.new ≡ max_tasks }
+    ensures sums_with_own { SumsWithOwn (listed periods.now budgets.now deadlines.now count) no_slack sums.new }
 {
     if count <= FEW_TASKS {
         let none = [0u32; MAX_TASKS];
@@ -103,19 +103,19 @@ fn move_parts(
     sums: &mut PerTask,
     count: usize,
 )
-    requires le_period { (1 ≤ period) × (period ≤ maxPeriod) × (budget ≤ period) }
-    requires count_le_max_tasks { (count ≤ maxTasks) × (length sums.old ≡ maxTasks) }
+    requires le_period { (1 ≤ period) × (period ≤ max_period) × (budget ≤ period) }
+    requires count_le_max_tasks { (count ≤ max_tasks) × (length sums.old ≡ max_tasks) }
     requires by_index { (k : ℕ) → k < count → get_or budgets.now k 0 ≤ get_or deadlines.now k 0 }
-    requires by_index_2 { (k : ℕ) → k < count → get_or deadlines.now k 0 ≤ maxPeriod }
+    requires by_index_2 { (k : ℕ) → k < count → get_or deadlines.now k 0 ≤ max_period }
     requires by_index_3 { (k : ℕ) → k < count →
-        (part period budget (get_or deadlines.now k 0 - before) (spareAt budgets.now deadlines.now k) ≤ get_or sums.old k 0)
-        × (get_or sums.old k 0 ≤ maxTasks * maxPeriod) }
-    ensures sums_len { length sums.new ≡ maxTasks }
+        (part period budget (get_or deadlines.now k 0 - before) (spare_at budgets.now deadlines.now k) ≤ get_or sums.old k 0)
+        × (get_or sums.old k 0 ≤ max_tasks * max_period) }
+    ensures sums_len { length sums.new ≡ max_tasks }
     ensures by_index_4 { (k : ℕ) → k < count →
         get_or sums.new k 0
         ≡ get_or sums.old k 0
-        - part period budget (get_or deadlines.now k 0 - before) (spareAt budgets.now deadlines.now k)
-        + part period budget (get_or deadlines.now k 0 - slack) (spareAt budgets.now deadlines.now k) }
+        - part period budget (get_or deadlines.now k 0 - before) (spare_at budgets.now deadlines.now k)
+        + part period budget (get_or deadlines.now k 0 - slack) (spare_at budgets.now deadlines.now k) }
 {
     let inverse = inverse_of(period);
     let mut k: usize = 0;
@@ -152,13 +152,13 @@ pub(crate) fn next_sums<'a>(
     sums: &mut PerTask,
     count: usize,
 )
-    requires count_le_max_tasks { (count ≤ maxTasks) × (length sums.old ≡ maxTasks) }
+    requires count_le_max_tasks { (count ≤ max_tasks) × (length sums.old ≡ max_tasks) }
     requires ranges { Ranges count periods.now budgets.now deadlines.now }
     requires by_index { (k : ℕ) → k < count →
         get_or sums.old k 0
         ≡ sum_to count (part_of (listed periods.now budgets.now deadlines.now count) (λ i. get_or before.now i 0) k) }
-    requires by_index_2 { (k : ℕ) → k < count → get_or slacks.now k 0 ≤ spareAt budgets.now deadlines.now k }
-    ensures sums_len { length sums.new ≡ maxTasks }
+    requires by_index_2 { (k : ℕ) → k < count → get_or slacks.now k 0 ≤ spare_at budgets.now deadlines.now k }
+    ensures sums_len { length sums.new ≡ max_tasks }
     ensures by_index_3 { (k : ℕ) → k < count →
         get_or sums.new k 0
         ≡ sum_to count

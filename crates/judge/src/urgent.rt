@@ -1,11 +1,11 @@
 // How many tasks may turn urgent.
 ghost use Rattle.std.specs.Prelude.{ℕ, ◌≤◌, ◌<◌, ◌≡◌, true, leb, get_or};
-ghost use Rattle.tasks.specs.Limits.{maxTasks, maxCores, maxPeriod};
+ghost use Rattle.tasks.specs.Limits.{max_tasks, max_cores, max_period};
 ghost use Rattle.tasks.specs.Task.{in_range};
-ghost use Rattle.tasks.specs.Table.{zeroTask};
+ghost use Rattle.tasks.specs.Table.{zero_task};
 ghost use Rattle.laws.specs.Sums.{sum_to, bit};
-ghost use Rattle.edzl.specs.Window.{countUrgent, noSlack};
-ghost use Rattle.tasks.specs.TaskSet.{firstTasks};
+ghost use Rattle.edzl.specs.Window.{count_urgent, no_slack};
+ghost use Rattle.tasks.specs.TaskSet.{first_tasks};
 ghost use Rattle.judge.specs.Parts.{needed};
 
 use crate::numbers::numbers_of;
@@ -24,9 +24,9 @@ pub(crate) fn count_by_sums<'a>(
     count: usize,
     cores: u32,
 ) -> u32
-    requires count_le_max_tasks { (count ≤ maxTasks) × (cores ≤ maxCores) }
+    requires count_le_max_tasks { (count ≤ max_tasks) × (cores ≤ max_cores) }
     requires by_index { (k : ℕ) → k < count → get_or budgets.now k 0 ≤ get_or deadlines.now k 0 }
-    requires by_index_2 { (k : ℕ) → k < count → get_or deadlines.now k 0 ≤ maxPeriod }
+    requires by_index_2 { (k : ℕ) → k < count → get_or deadlines.now k 0 ≤ max_period }
     ensures { result
         ≡ sum_to count
         (λ k. bit
@@ -48,9 +48,9 @@ pub(crate) fn count_by_sums<'a>(
 
 // How many of the first `count` tasks may turn urgent. The numbers are copied once, and lent from then on.
 pub(crate) fn count_urgent(tasks: [Task; MAX_TASKS], count: usize, cores: u32) -> u32
-    requires count_le_max_tasks { (count ≤ maxTasks) × (cores ≤ maxCores) }
-    requires by_index { (i : ℕ) → i < count → in_range (get_or tasks i zeroTask) ≡ true }
-    ensures { result ≡ countUrgent (firstTasks tasks count) noSlack cores }
+    requires count_le_max_tasks { (count ≤ max_tasks) × (cores ≤ max_cores) }
+    requires by_index { (i : ℕ) → i < count → in_range (get_or tasks i zero_task) ≡ true }
+    ensures { result ≡ count_urgent (first_tasks tasks count) no_slack cores }
 {
     let numbers = numbers_of(tasks, count);
     let mut sums = [0u32; MAX_TASKS];

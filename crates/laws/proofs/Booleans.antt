@@ -3,7 +3,7 @@ use mathlib.Core.Path.{◌≡◌, refl, sym, ◌∙◌}
 use mathlib.Core.Bool.{Bool, true, false, cond, not, ◌&&◌}
 use borrow.Author.Tests.{not-true, not-false}
 use mir.Val.{bool_byte}
-use Rattle.laws.proofs.CaseSplits.{not-both}
+use Rattle.laws.proofs.CaseSplits.{not_both}
 
 pub and_left : (a b : Bool) → (a && b) ≡ true → a ≡ true
 and_left true b h = refl
@@ -11,7 +11,7 @@ and_left false b h = h
 
 pub and_right : (a b : Bool) → (a && b) ≡ true → b ≡ true
 and_right true b h = h
-and_right false b h = not-both false h refl
+and_right false b h = not_both false h refl
 
 -- each holds where the other does: they are equal
 pub both_ways : (a b : Bool) → (a ≡ true → b ≡ true) → (b ≡ true → a ≡ true) → a ≡ b
@@ -20,13 +20,13 @@ both_ways false true f g = g refl
 both_ways false false f g = refl
 
 -- a Boolean as a number, as the checker writes the code's cast
-pub bool-byte : (b : Bool) → bool_byte b ≡ cond b 1 0
-bool-byte true = refl
-bool-byte false = refl
+pub bool_byte_lem : (b : Bool) → bool_byte b ≡ cond b 1 0
+bool_byte_lem true = refl
+bool_byte_lem false = refl
 
 -- what a test of a call's result says of what the call ensures: past `if !result` it was true, and inside it was false
-pub was-true : {result is : Bool} → result ≡ is → not result ≡ false → is ≡ true
-was-true e left = sym e ∙ not-false _ left
+pub was_true : {result is : Bool} → result ≡ is → not result ≡ false → is ≡ true
+was_true e left = sym e ∙ not-false _ left
 
-pub was-false : {result is : Bool} → result ≡ is → not result ≡ true → is ≡ false
-was-false e taken = sym e ∙ not-true _ taken
+pub was_false : {result is : Bool} → result ≡ is → not result ≡ true → is ≡ false
+was_false e taken = sym e ∙ not-true _ taken

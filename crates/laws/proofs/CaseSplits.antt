@@ -13,9 +13,9 @@ by_order a b f g = elim (dec_le a b) [ yes h ↦ f h | no h ↦ g (lt_of_not-le 
 pub by_equal : {A : Type 0} (a b : ℕ) → (a ≡ b → A) → ((a ≡ b → ⊥) → A) → A
 by_equal a b f g = elim (ℕ_discrete a b) [ yes h ↦ f h | no h ↦ g h ]
 
-pub by-test : {A : Type 0} (t : Bool) → (t ≡ true → A) → (t ≡ false → A) → A
-by-test true f g = f refl
-by-test false f g = g refl
+pub by_test : {A : Type 0} (t : Bool) → (t ≡ true → A) → (t ≡ false → A) → A
+by_test true f g = f refl
+by_test false f g = g refl
 
 -- two tests come to the same, or one of them holds
 pub by_tests : {A : Type 0} (t u : Bool) → (t ≡ u → A) → (t ≡ true → u ≡ false → A) → (t ≡ false → u ≡ true → A) → A
@@ -24,9 +24,9 @@ by_tests true false same f g = f refl refl
 by_tests false true same f g = g refl refl
 by_tests false false same f g = same refl
 
-pub not-both : {A : Type 0} (t : Bool) → t ≡ true → t ≡ false → A
-not-both true p q = absurd (subst T q tt)
-not-both false p q = absurd (subst T (sym p) tt)
+pub not_both : {A : Type 0} (t : Bool) → t ≡ true → t ≡ false → A
+not_both true p q = absurd (subst T q tt)
+not_both false p q = absurd (subst T (sym p) tt)
 
 -- what holds of either outcome of a test, given what the test came to
 pub by_cond : {A : Type 0} (P : A → Type 0) (t : Bool) {x y : A} → (t ≡ true → P x) → (t ≡ false → P y) → P (cond t x y)

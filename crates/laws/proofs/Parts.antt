@@ -14,11 +14,11 @@ from s k = take (length s - k) (drop k s)
 abbrev pub past : {A : Type 0} → List A → ℕ → List A
 past s k = from s (k + 1)
 
-pub from-drop : {A : Type 0} (s : List A) (k : ℕ) → from s k ≡ drop k s
-from-drop s k = take_all (length s - k) (drop k s) (rw (length-drop k s) (le_refl (length s - k)))
+pub from_drop : {A : Type 0} (s : List A) (k : ℕ) → from s k ≡ drop k s
+from_drop s k = take_all (length s - k) (drop k s) (rw (length-drop k s) (le_refl (length s - k)))
 
-pub from-length : {A : Type 0} (s : List A) (k : ℕ) → length (from s k) ≡ length s - k
-from-length s k = rw (from-drop s k) (length-drop k s)
+pub from_length : {A : Type 0} (s : List A) (k : ℕ) → length (from s k) ≡ length s - k
+from_length s k = rw (from_drop s k) (length-drop k s)
 
 pub empty : {A : Type 0} (s : List A) → length s ≤ 0 → s ≡ []
 empty [] h = refl

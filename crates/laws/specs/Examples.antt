@@ -9,6 +9,6 @@ same_numbers (x ∷ s) [] = false
 same_numbers (x ∷ s) (y ∷ t) = eqb x y && same_numbers s t
 
 -- every test of a list holds
-unfoldable pub allTrue : List Bool → Bool
-allTrue [] = true
-allTrue (b ∷ l) = b && allTrue l
+unfoldable pub all_true : List Bool → Bool
+all_true [] = true
+all_true (b ∷ l) = b && all_true l

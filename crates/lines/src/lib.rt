@@ -1,8 +1,8 @@
 // The lines that verdict and sharper print of a table, and what quote shares with them. What puts them answers how many bytes the array then holds.
 ghost use Rattle.std.specs.Prelude.{min, ◌≡◌, ◌++◌};
 ghost use Rattle.text.specs.Output.{Put};
-ghost use Rattle.tasks.specs.Limits.{maxCores};
-ghost use Rattle.lines.specs.Printed.{header, lineNumbers, verdictLine, linesUpTo, printed};
+ghost use Rattle.tasks.specs.Limits.{max_cores};
+ghost use Rattle.lines.specs.Printed.{header, line_numbers, verdict_line, lines_up_to, printed};
 
 use judge::slack::judge_by_slack;
 use tasks::limits::MAX_CORES;
@@ -32,7 +32,7 @@ fn put_header(output: &mut [u8], test: Test) -> usize
 
 // The numbers of a line: the cores, COUNT or the rounds made, and 1 for admitted or 0.
 fn line_numbers(test: Test, table: Table, cores: u32) -> [u64; 3]
-    ensures { result ≡ lineNumbers test table cores }
+    ensures { result ≡ line_numbers test table cores }
 {
     match test {
         Test::Window => {
@@ -52,7 +52,7 @@ fn line_numbers(test: Test, table: Table, cores: u32) -> [u64; 3]
 
 // The line of a number of cores.
 fn put_line(output: &mut [u8], used: usize, test: Test, table: Table, cores: u32) -> usize
-    ensures { Put output.old used (verdictLine test table cores) output.new result }
+    ensures { Put output.old used (verdict_line test table cores) output.new result }
 {
     let numbers = line_numbers(test, table, cores);
     put_numbers(output, used, &numbers)
@@ -60,7 +60,7 @@ fn put_line(output: &mut [u8], used: usize, test: Test, table: Table, cores: u32
 
 // The largest number of cores that has a line.
 pub fn last_cores(count: usize) -> u32
-    ensures { result ≡ min maxCores count }
+    ensures { result ≡ min max_cores count }
 {
     if count < MAX_CORES as usize {
         return count as u32;
@@ -70,7 +70,7 @@ pub fn last_cores(count: usize) -> u32
 
 // The line of names and the lines of the numbers of cores.
 fn put_lines(output: &mut [u8], test: Test, table: Table) -> usize
-    ensures { Put output.old 0 (header test ++ linesUpTo (verdictLine test table) (min maxCores table.count)) output.new result }
+    ensures { Put output.old 0 (header test ++ lines_up_to (verdict_line test table) (min max_cores table.count)) output.new result }
 {
     let last = last_cores(table.count);
     let mut used = put_header(output, test);

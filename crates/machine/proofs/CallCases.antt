@@ -10,19 +10,19 @@ use borrow.Author.Tests.{not-true, not-false, ltb-false}
 use Rattle.tasks.specs.declared.task.Task.{Task}
 use Rattle.tasks.specs.declared.outcome.Outcome.{Outcome}
 use Rattle.tasks.specs.declared.outcome.Outcome.TheVariants.{Done, Refused}
-use Rattle.tasks.specs.Limits.{maxCores}
-use Rattle.tasks.specs.Refusals.{unsoundMachine, noSuchTask, releasedTooSoon, jobNotOpen, slotCoresOutOfRange, needOutOfRange, noHeldTask}
-use Rattle.laws.proofs.CaseSplits.{not-both, by_cond}
+use Rattle.tasks.specs.Limits.{max_cores}
+use Rattle.tasks.specs.Refusals.{unsound_machine, no_such_task, released_too_soon, job_not_open, slot_cores_out_of_range, need_out_of_range, no_held_task}
+use Rattle.laws.proofs.CaseSplits.{not_both, by_cond}
 use Rattle.tasks.proofs.OutcomeLaws.{Numbered}
-use Rattle.job.specs.Job.{closedJob, releasedJob}
-use Rattle.job.proofs.NeedLaws.{NeedRange, need-range}
-use Rattle.machine.specs.Machine.{taskAt, jobAt, withJob, holding}
+use Rattle.job.specs.Job.{closed_job, released_job}
+use Rattle.job.proofs.NeedLaws.{NeedRange, need_range}
+use Rattle.machine.specs.Machine.{task_at, job_at, with_job, holding}
 use Rattle.machine.specs.Pick.{runners}
-use Rattle.machine.specs.Slot.{noReport, slotReport, afterSlot}
-use Rattle.machine.specs.Cores.{slotAssignment, withAssigned}
-use Rattle.machine.specs.Offer.{offerChecked}
+use Rattle.machine.specs.Slot.{no_report, slot_report, after_slot}
+use Rattle.machine.specs.Cores.{slot_assignment, with_assigned}
+use Rattle.machine.specs.Offer.{offer_checked}
 use Rattle.machine.specs.Sound.{sound}
-use Rattle.machine.specs.Calls.{done, refuse, release, finish, slotCoresInRange, slot, offerAfter, offer, withJoined, commitHeld, commit, step}
+use Rattle.machine.specs.Calls.{done, refuse, release, finish, slot_cores_in_range, slot, offer_after, offer, with_joined, commit_held, commit, step}
 use Rattle.machine.specs.declared.held.Held.{Held}
 use Rattle.machine.specs.declared.held.Held.TheVariants.{None, Offered}
 use Rattle.machine.specs.declared.machine.Machine.{Machine}
@@ -30,29 +30,29 @@ use Rattle.machine.specs.declared.call.Call.{Call}
 use Rattle.machine.specs.declared.call.Call.TheVariants.{Release, Finish, Slot, Offer, Commit}
 use Rattle.machine.specs.declared.answer.Answer.{Answer}
 use Rattle.machine.specs.declared.answer.Report.{Report}
-use Rattle.machine.proofs.OfferLaws.{OfferFits, offer-numbered}
-use Rattle.machine.proofs.SoundLaws.{sound-free, held_fits}
-use Rattle.machine.proofs.TaskNumbers.{KnownTask, known-task}
+use Rattle.machine.proofs.OfferLaws.{OfferFits, offer_numbered}
+use Rattle.machine.proofs.SoundLaws.{sound_free, held_fits}
+use Rattle.machine.proofs.TaskNumbers.{KnownTask, known_task}
 use Rattle.machine.proofs.SlotStep.{LegalSlot}
-use Rattle.machine.proofs.RunnersLegal.{runners-legal, enough-cores, few-cores}
-use Rattle.machine.proofs.RunnersPlaced.{Placed, runners-placed}
+use Rattle.machine.proofs.RunnersLegal.{runners_legal, enough_cores, few_cores}
+use Rattle.machine.proofs.RunnersPlaced.{Placed, runners_placed}
 
 -- the answer of a refused call, of an accepted one, and of an accepted slot
 abbrev pub refusal : Machine → (number place : ℕ) → Answer
-refusal m number place = record { machine = m; outcome = Refused number place; report = noReport }
+refusal m number place = record { machine = m; outcome = Refused number place; report = no_report }
 
 abbrev pub accepted : Machine → Report → Answer
 accepted m report = record { machine = m; outcome = Done; report = report }
 
-abbrev pub slotAnswer : Machine → (ran : List Bool) → (assigned : List ℕ) → Answer
-slotAnswer m ran assigned = accepted (withAssigned (afterSlot m ran) assigned) (slotReport m ran assigned)
+abbrev pub slot_answer : Machine → (ran : List Bool) → (assigned : List ℕ) → Answer
+slot_answer m ran assigned = accepted (with_assigned (after_slot m ran) assigned) (slot_report m ran assigned)
 
 -- the machine after an accepted release, and after an accepted finish
-unfoldable pub afterRelease : Machine → (number need : ℕ) → Machine
-afterRelease m number need = withJob m (number - 1) (releasedJob (taskAt m (number - 1)) need)
+unfoldable pub after_release : Machine → (number need : ℕ) → Machine
+after_release m number need = with_job m (number - 1) (released_job (task_at m (number - 1)) need)
 
-unfoldable pub afterFinish : Machine → (number : ℕ) → Machine
-afterFinish m number = withJob m (number - 1) (closedJob (jobAt m (number - 1)))
+unfoldable pub after_finish : Machine → (number : ℕ) → Machine
+after_finish m number = with_job m (number - 1) (closed_job (job_at m (number - 1)))
 
 -- a refusal's number: 0 only on an unsound machine, and two digits at most
 pub record Refusal (m : Machine) (number : ℕ) : Type 0 where
@@ -62,102 +62,102 @@ pub record Refusal (m : Machine) (number : ℕ) : Type 0 where
 -- what an accepted release, finish, slot, offer and commit found
 pub record ReleaseTaken (m : Machine) (number need : ℕ) : Type 0 where
   pub task : KnownTask m number
-  pub needed : NeedRange (taskAt m (number - 1)) need
-  pub was_free : (jobAt m (number - 1)).gap ≡ 0
-  pub was-closed : (jobAt m (number - 1)).«open» ≡ false
+  pub needed : NeedRange (task_at m (number - 1)) need
+  pub was_free : (job_at m (number - 1)).gap ≡ 0
+  pub was_closed : (job_at m (number - 1)).«open» ≡ false
 
 pub record FinishTaken (m : Machine) (number : ℕ) : Type 0 where
   pub task : KnownTask m number
-  pub was-open : (jobAt m (number - 1)).«open» ≡ true
+  pub was_open : (job_at m (number - 1)).«open» ≡ true
 
 pub record SlotTaken (m : Machine) (k : ℕ) (ran : List Bool) (assigned : List ℕ) : Type 0 where
   pub legal : LegalSlot m ran
   pub placed : Placed k ran assigned
-  pub few-cores : k ≤ maxCores
+  pub few_cores : k ≤ max_cores
 
 pub record OfferTaken (m : Machine) (t : Task) : Type 0 where
-  pub is-sound : sound m ≡ true
-  pub passes : offerChecked m.table m.cores t ≡ Done
+  pub is_sound : sound m ≡ true
+  pub passes : offer_checked m.table m.cores t ≡ Done
 
 pub record CommitTaken (m : Machine) (t : Task) : Type 0 where
-  pub is-sound : sound m ≡ true
-  pub held-is : m.held ≡ Offered t
+  pub is_sound : sound m ≡ true
+  pub held_is_lem : m.held ≡ Offered t
   pub fits : OfferFits m.table m.cores t
 
 -- what holds of a refused call's answer and of each accepted call's holds of every call's
 module _
     (m : Machine)
     (P : Call → Answer → Type 0)
-    (on-refusal : (call : Call) (number place : ℕ) → Refusal m number → P call (refusal m number place))
-    (on-release : (number need : ℕ) → ReleaseTaken m number need → P (Release number need) (accepted (afterRelease m number need) noReport))
-    (on-finish : (number : ℕ) → FinishTaken m number → P (Finish number) (accepted (afterFinish m number) noReport))
-    (on-slot : (k : ℕ) (ran : List Bool) (assigned : List ℕ) → SlotTaken m k ran assigned → P (Slot k) (slotAnswer m ran assigned))
-    (on-offer : (t : Task) → OfferTaken m t → P (Offer t) (accepted (holding m (Offered t)) noReport))
-    (on-commit : (t : Task) → CommitTaken m t → P Commit (accepted (withJoined m t) noReport))
+    (on_refusal : (call : Call) (number place : ℕ) → Refusal m number → P call (refusal m number place))
+    (on_release : (number need : ℕ) → ReleaseTaken m number need → P (Release number need) (accepted (after_release m number need) no_report))
+    (on_finish : (number : ℕ) → FinishTaken m number → P (Finish number) (accepted (after_finish m number) no_report))
+    (on_slot : (k : ℕ) (ran : List Bool) (assigned : List ℕ) → SlotTaken m k ran assigned → P (Slot k) (slot_answer m ran assigned))
+    (on_offer : (t : Task) → OfferTaken m t → P (Offer t) (accepted (holding m (Offered t)) no_report))
+    (on_commit : (t : Task) → CommitTaken m t → P Commit (accepted (with_joined m t) no_report))
   where
     -- by a number that is not 0
     by_number : (number : ℕ) → (0 < number) × (number < 100) → Refusal m number
     by_number number h = record { some = λ ok. h.0; small = h.1 }
 
     -- past the test that refuses an unsound machine by 0
-    past-0 : (call : Call) {answer : Answer} → (sound m ≡ true → P call answer) → P call (cond (not (sound m)) (refusal m unsoundMachine 0) answer)
-    past-0 call on =
-        by_cond (P call) (not (sound m)) (λ e. on-refusal call unsoundMachine 0 (record { some = λ ok. not-both _ ok (not-true _ e); small = omega arith }))
+    past_0 : (call : Call) {answer : Answer} → (sound m ≡ true → P call answer) → P call (cond (not (sound m)) (refusal m unsound_machine 0) answer)
+    past_0 call on =
+        by_cond (P call) (not (sound m)) (λ e. on_refusal call unsound_machine 0 (record { some = λ ok. not_both _ ok (not-true _ e); small = omega arith }))
         (λ e. on (not-false _ e))
 
     -- past a test that refuses the call by this number
     past :
         (call : Call) (t : Bool) (number : ℕ) {answer : Answer} → (0 < number) × (number < 100) → (t ≡ false → P call answer)
         → P call (cond t (refusal m number 0) answer)
-    past call t number h on = by_cond (P call) t (λ e. on-refusal call number 0 (by_number number h)) on
+    past call t number h on = by_cond (P call) t (λ e. on_refusal call number 0 (by_number number h)) on
 
     -- an offer, after its checks
-    by-offer : (t : Task) (checks : Outcome) → Numbered checks → (checks ≡ Done → OfferTaken m t) → P (Offer t) (offerAfter checks m t)
-    unfolding offerAfter done
-    by-offer t Done numbered taken = on-offer t (taken refl)
-    by-offer t (Refused number place) numbered taken = on-refusal _ _ _ (by_number number (numbered.number_is number place refl))
+    by_offer : (t : Task) (checks : Outcome) → Numbered checks → (checks ≡ Done → OfferTaken m t) → P (Offer t) (offer_after checks m t)
+    unfolding offer_after done
+    by_offer t Done numbered taken = on_offer t (taken refl)
+    by_offer t (Refused number place) numbered taken = on_refusal _ _ _ (by_number number (numbered.number_is number place refl))
 
     -- a commit, by what the machine holds
-    by-held : sound m ≡ true → (held : Held) → m.held ≡ held → P Commit (commitHeld held m)
-    unfolding commitHeld refuse done
-    by-held ok None e = on-refusal _ _ _ (by_number noHeldTask (omega arith))
-    by-held ok (Offered t) e = on-commit t (record { is-sound = ok; held-is = e; fits = held_fits m ok t e })
+    by_held : sound m ≡ true → (held : Held) → m.held ≡ held → P Commit (commit_held held m)
+    unfolding commit_held refuse done
+    by_held ok None e = on_refusal _ _ _ (by_number no_held_task (omega arith))
+    by_held ok (Offered t) e = on_commit t (record { is_sound = ok; held_is_lem = e; fits = held_fits m ok t e })
 
     -- a task without a gap is closed, as the machine is sound
-    release-taken :
-        (number need : ℕ) → KnownTask m number → NeedRange (taskAt m (number - 1)) need → (jobAt m (number - 1)).gap ≡ 0
+    release_taken :
+        (number need : ℕ) → KnownTask m number → NeedRange (task_at m (number - 1)) need → (job_at m (number - 1)).gap ≡ 0
         → ReleaseTaken m number need
-    release-taken number need task needed free =
-        record { task = task; needed = needed; was_free = free; was-closed = sound-free m task.is-sound (number - 1) task.inside free }
+    release_taken number need task needed free =
+        record { task = task; needed = needed; was_free = free; was_closed = sound_free m task.is_sound (number - 1) task.inside free }
 
     -- a slot that is not refused
-    slot-taken : (k : ℕ) → sound m ≡ true → slotCoresInRange m k ≡ true → SlotTaken m k (runners m k) (slotAssignment m k)
-    slot-taken k ok in-range =
+    slot_taken : (k : ℕ) → sound m ≡ true → slot_cores_in_range m k ≡ true → SlotTaken m k (runners m k) (slot_assignment m k)
+    slot_taken k ok in_range_lem =
         record {
-          legal = runners-legal m k ok (enough-cores m k in-range);
-          placed = runners-placed m k ok;
-          few-cores = few-cores m k in-range;
+          legal = runners_legal m k ok (enough_cores m k in_range_lem);
+          placed = runners_placed m k ok;
+          few_cores = few_cores m k in_range_lem;
         }
 
     pub by_call : (call : Call) → P call (step m call)
-    unfolding step release finish slot offer commit refuse done afterRelease afterFinish
+    unfolding step release finish slot offer commit refuse done after_release after_finish
     by_call (Release number need) =
-        past-0 _ λ ok.
-        past _ _ noSuchTask (omega arith) λ known.
-        past _ _ needOutOfRange (omega arith) λ needed.
-        past _ (ltb 0 (jobAt m (number - 1)).gap) releasedTooSoon (omega arith) λ free.
-        on-release number need
-        (release-taken number need (known-task m number ok (not-false _ known)) (need-range _ need (not-false _ needed)) (omega (arith, ltb-false)))
+        past_0 _ λ ok.
+        past _ _ no_such_task (omega arith) λ known.
+        past _ _ need_out_of_range (omega arith) λ needed.
+        past _ (ltb 0 (job_at m (number - 1)).gap) released_too_soon (omega arith) λ free.
+        on_release number need
+        (release_taken number need (known_task m number ok (not-false _ known)) (need_range _ need (not-false _ needed)) (omega (arith, ltb-false)))
     by_call (Finish number) =
-        past-0 _ λ ok.
-        past _ _ noSuchTask (omega arith) λ known.
-        past _ _ jobNotOpen (omega arith) λ opened.
-        on-finish number (record { task = known-task m number ok (not-false _ known); was-open = not-false _ opened })
+        past_0 _ λ ok.
+        past _ _ no_such_task (omega arith) λ known.
+        past _ _ job_not_open (omega arith) λ opened.
+        on_finish number (record { task = known_task m number ok (not-false _ known); was_open = not-false _ opened })
     by_call (Slot k) =
-        past-0 _ λ ok.
-        past _ _ slotCoresOutOfRange (omega arith) λ in-range.
-        on-slot k (runners m k) (slotAssignment m k) (slot-taken k ok (not-false _ in-range))
+        past_0 _ λ ok.
+        past _ _ slot_cores_out_of_range (omega arith) λ in_range_lem.
+        on_slot k (runners m k) (slot_assignment m k) (slot_taken k ok (not-false _ in_range_lem))
     by_call (Offer t) =
-        past-0 _ λ ok.
-        by-offer t _ (offer-numbered m.table m.cores t) λ passes. record { is-sound = ok; passes = passes }
-    by_call Commit = past-0 _ λ ok. by-held ok m.held refl
+        past_0 _ λ ok.
+        by_offer t _ (offer_numbered m.table m.cores t) λ passes. record { is_sound = ok; passes = passes }
+    by_call Commit = past_0 _ λ ok. by_held ok m.held refl

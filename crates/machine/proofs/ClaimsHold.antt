@@ -1,6 +1,6 @@
--- What the claim of demand 3 says. The logs made by hand all come to what `claims` says of them (`claims-hold`). The claim is not empty: it speaks of a release,
--- with a need below the budget, whose job runs and finishes (`not-empty`); and it is false of a log with a late job (`late-refuted`) and of one with a
--- job that does not finish when it has run what its release named (`unclosed-refuted`).
+-- What the claim of demand 3 says. The logs made by hand all come to what `claims` says of them (`claims_hold`). The claim is not empty: it speaks of a release,
+-- with a need below the budget, whose job runs and finishes (`not_empty`); and it is false of a log with a late job (`late_refuted`) and of one with a
+-- job that does not finish when it has run what its release named (`unclosed_refuted`).
 use Prim.Native.Nat.{ℕ, ◌-◌, ◌≤◌, ◌<◌}
 use mathlib.Core.Path.{◌≡◌, refl}
 use mathlib.Core.Bool.{Bool, true, false}
@@ -9,31 +9,31 @@ use lib.ListN.{get_or, take, drop, replicate}
 use native.Mathlib.Omega.{arith}
 use Rattle.tasks.specs.declared.table.Table.{Table}
 use Rattle.tasks.specs.declared.outcome.Outcome.TheVariants.{Done}
-use Rattle.tasks.specs.Table.{zeroTask}
-use Rattle.tasks.specs.Outcome.{isDone}
+use Rattle.tasks.specs.Table.{zero_task}
+use Rattle.tasks.specs.Outcome.{is_done}
 use Rattle.tasks.specs.Written.{task, table_of}
-use Rattle.laws.specs.Examples.{allTrue}
-use Rattle.laws.proofs.CaseSplits.{not-both}
+use Rattle.laws.specs.Examples.{all_true}
+use Rattle.laws.proofs.CaseSplits.{not_both}
 use Rattle.judge.specs.Judge.{judged}
 use Rattle.judge.specs.SlackJudge.{admission}
-use Rattle.judge.specs.SlackExamples.{fourTasks}
-use Rattle.machine.specs.Slot.{noReport}
+use Rattle.judge.specs.SlackExamples.{four_tasks}
+use Rattle.machine.specs.Slot.{no_report}
 use Rattle.machine.specs.Calls.{start}
 use Rattle.machine.specs.Play.{Entry, play}
-use Rattle.machine.specs.InTime.{isFinishOf, acceptedFinish, saysRan, saysFinished, slotCount, upToSlot, ranWhole, anyFinish, withOffered, pointBy, pointAfter, tableAfter, closedBySlot, InTime, Promise}
-use Rattle.machine.specs.Claims.{slot_of, idle, ranOn, ranLast, acceptedCall, refusedCall, closed_in, threeTasks, fourth, twoCommits, claims}
+use Rattle.machine.specs.InTime.{is_finish_of, accepted_finish, says_ran, says_finished, slot_count, up_to_slot, ran_whole, any_finish, with_offered, point_by, point_after, table_after, closed_by_slot, InTime, Promise}
+use Rattle.machine.specs.Claims.{slot_of, idle, ran_on, ran_last, accepted_call, refused_call, closed_in, three_tasks, fourth, two_commits, claims}
 use Rattle.machine.specs.declared.call.Call.{Call}
 use Rattle.machine.specs.declared.call.Call.TheVariants.{Release, Slot, Offer, Commit}
 use Rattle.machine.proofs.Computing.{computing}
 use Rattle.machine.proofs.InTimeHolds.{promise}
 
-pub claims-hold : allTrue claims ≡ true
-unfolding computing saysRan saysFinished slotCount upToSlot ranWhole acceptedFinish isFinishOf anyFinish closedBySlot withOffered pointBy pointAfter tableAfter slot_of idle ranOn ranLast acceptedCall refusedCall closed_in threeTasks fourth twoCommits claims allTrue
-claims-hold = refl
+pub claims_hold : all_true claims ≡ true
+unfolding computing says_ran says_finished slot_count up_to_slot ran_whole accepted_finish is_finish_of any_finish closed_by_slot with_offered point_by point_after table_after slot_of idle ran_on ran_last accepted_call refused_call closed_in three_tasks fourth two_commits claims all_true
+claims_hold = refl
 
 -- a slot of a log made by hand in which task 2 is late
-pub secondLate : Entry
-secondLate =
+pub second_late : Entry
+second_late =
     record {
       call = Slot 1;
       outcome = Done;
@@ -41,13 +41,13 @@ secondLate =
     }
 
 -- a log made by hand with that slot; the claim fails of task 2
-pub late-refuted : InTime threeTasks (acceptedCall (Release 2 1) ∷ secondLate ∷ []) → ⊥
-unfolding computing secondLate
-late-refuted claim = not-both true refl (claim.none-late (acceptedCall (Release 2 1) ∷ []) [] secondLate refl refl 1)
+pub late_refuted : InTime three_tasks (accepted_call (Release 2 1) ∷ second_late ∷ []) → ⊥
+unfolding computing second_late
+late_refuted claim = not_both true refl (claim.none_late (accepted_call (Release 2 1) ∷ []) [] second_late refl refl 1)
 
 -- a slot of a log made by hand in which task 4 runs, and what it says of its finishing
-pub fourthRan : (finished : Bool) → Entry
-fourthRan finished =
+pub fourth_ran : (finished : Bool) → Entry
+fourth_ran finished =
     record {
       call = Slot 2;
       outcome = Done;
@@ -61,17 +61,17 @@ fourthRan finished =
           };
     }
 
--- a log made by hand: task 4, which was withOffered, is released with a need of 2, below its budget, and in the three slots to its deadline it runs three times and
+-- a log made by hand: task 4, which was with_offered, is released with a need of 2, below its budget, and in the three slots to its deadline it runs three times and
 -- finishes with the third; the claim fails of that release
-pub unclosed-refuted :
-    (InTime threeTasks
-    (acceptedCall (Release 1 1) ∷ acceptedCall (Offer (task 9 3 3)) ∷ acceptedCall Commit ∷ acceptedCall (Release 4 2) ∷ fourthRan false ∷ fourthRan false ∷ fourthRan true ∷ []))
+pub unclosed_refuted :
+    (InTime three_tasks
+    (accepted_call (Release 1 1) ∷ accepted_call (Offer (task 9 3 3)) ∷ accepted_call Commit ∷ accepted_call (Release 4 2) ∷ fourth_ran false ∷ fourth_ran false ∷ fourth_ran true ∷ []))
     → ⊥
-unfolding computing acceptedCall threeTasks fourthRan saysRan saysFinished slotCount upToSlot ranWhole acceptedFinish isFinishOf anyFinish closedBySlot withOffered pointBy pointAfter tableAfter
-unclosed-refuted claim =
-    not-both false
-    (claim.all_closed (acceptedCall (Release 1 1) ∷ acceptedCall (Offer (task 9 3 3)) ∷ acceptedCall Commit ∷ []) (fourthRan false ∷ fourthRan false ∷ fourthRan true ∷ [])
-    (acceptedCall (Release 4 2)) 4 2 refl refl refl (omega arith))
+unfolding computing accepted_call three_tasks fourth_ran says_ran says_finished slot_count up_to_slot ran_whole accepted_finish is_finish_of any_finish closed_by_slot with_offered point_by point_after table_after
+unclosed_refuted claim =
+    not_both false
+    (claim.all_closed (accepted_call (Release 1 1) ∷ accepted_call (Offer (task 9 3 3)) ∷ accepted_call Commit ∷ []) (fourth_ran false ∷ fourth_ran false ∷ fourth_ran true ∷ [])
+    (accepted_call (Release 4 2)) 4 2 refl refl refl (omega arith))
     refl
 
 -- an admitted table and calls whose log has what demand 3 speaks of
@@ -81,7 +81,7 @@ pub record NotEmpty : Type 0 where
   pub calls : List Call
   pub admitted : (admission table cores).admits ≡ true
   -- only the slack test admits it
-  pub window-refuses : (judged table cores).admits ≡ false
+  pub window_refuses_lem : (judged table cores).admits ≡ false
   -- the log, cut at a release of the task with this number, which names this need
   pub number : ℕ
   pub need : ℕ
@@ -90,52 +90,52 @@ pub record NotEmpty : Type 0 where
   pub after : List Entry
   pub log : play (start table cores).machine calls ≡ before ++ entry ∷ after
   pub called : entry.call ≡ Release number need
-  pub released : isDone entry.outcome ≡ true
+  pub released : is_done entry.outcome ≡ true
   -- the need is below the task's budget
-  pub below : need < (get_or (tableAfter table before).tasks (number - 1) zeroTask).budget
-  pub enough-slots : (get_or (tableAfter table before).tasks (number - 1) zeroTask).deadline ≤ slotCount after
+  pub below : need < (get_or (table_after table before).tasks (number - 1) zero_task).budget
+  pub enough_slots : (get_or (table_after table before).tasks (number - 1) zero_task).deadline ≤ slot_count after
   -- entries after it: a slot in which the task runs, and one that reports it finished
-  pub ran-at : ℕ
-  pub ran : saysRan number (get_or after ran-at entry) ≡ true
-  pub finished-at : ℕ
-  pub finished : saysFinished number (get_or after finished-at entry) ≡ true
+  pub ran_at : ℕ
+  pub ran : says_ran number (get_or after ran_at entry) ≡ true
+  pub finished_at : ℕ
+  pub finished : says_finished number (get_or after finished_at entry) ≡ true
 
 -- on 2 cores, document 002's four tasks are released and eight slots follow; the release is that of task 4, with a need of 2 of its 3
-exampleCalls : List Call
-exampleCalls = Release 1 1 ∷ Release 2 1 ∷ Release 3 1 ∷ Release 4 2 ∷ replicate 8 (Slot 2)
+example_calls : List Call
+example_calls = Release 1 1 ∷ Release 2 1 ∷ Release 3 1 ∷ Release 4 2 ∷ replicate 8 (Slot 2)
 
-pub not-empty : NotEmpty
-unfolding computing fourTasks exampleCalls saysRan saysFinished slotCount withOffered pointBy pointAfter tableAfter
-not-empty =
-    let entries = play (start (table_of fourTasks) 2).machine exampleCalls in
+pub not_empty : NotEmpty
+unfolding computing four_tasks example_calls says_ran says_finished slot_count with_offered point_by point_after table_after
+not_empty =
+    let entries = play (start (table_of four_tasks) 2).machine example_calls in
     record {
-      table = table_of fourTasks;
+      table = table_of four_tasks;
       cores = 2;
-      calls = exampleCalls;
+      calls = example_calls;
       admitted = refl;
-      window-refuses = refl;
+      window_refuses_lem = refl;
       number = 4;
       need = 2;
       before = take 3 entries;
-      entry = record { call = Release 4 2; outcome = Done; report = noReport };
+      entry = record { call = Release 4 2; outcome = Done; report = no_report };
       after = drop 4 entries;
       log = refl;
       called = refl;
       released = refl;
       below = omega arith;
-      enough-slots = omega arith;
-      ran-at = 1;
+      enough_slots = omega arith;
+      ran_at = 1;
       ran = refl;
-      finished-at = 2;
+      finished_at = 2;
       finished = refl;
     }
 
 -- what the promise says of that release
-pub not-empty-closed :
+pub not_empty_closed :
     (w : NotEmpty)
-    → let deadline = (get_or (tableAfter w.table w.before).tasks (w.number - 1) zeroTask).deadline in
-    closedBySlot w.number w.need deadline w.after ≡ true
+    → let deadline = (get_or (table_after w.table w.before).tasks (w.number - 1) zero_task).deadline in
+    closed_by_slot w.number w.need deadline w.after ≡ true
 unfolding Promise
-not-empty-closed w =
+not_empty_closed w =
     (promise w.table w.cores w.admitted w.calls).all_closed
-    w.before w.after w.entry w.number w.need w.log w.called w.released w.enough-slots
+    w.before w.after w.entry w.number w.need w.log w.called w.released w.enough_slots

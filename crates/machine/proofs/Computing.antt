@@ -1,32 +1,32 @@
 -- What a computed test looks through, in one name: a proof `unfolding computing` computes verdicts and runs of the machine.
 use mathlib.Core.Bool.{Bool, true}
-use Rattle.tasks.proofs.Computing.{computingTables}
-use Rattle.judge.proofs.Computing.{computingVerdicts}
-use Rattle.job.proofs.Computing.{computingJobs}
-use Rattle.cores.proofs.Computing.{computingCores}
-use Rattle.machine.specs.Machine.{zeroMachine, taskAt, jobAt, withJob, holding, in_table}
-use Rattle.machine.specs.Pick.{openCount, waiting, precedes, candidates, withPicked, pick, runnerCount, runners}
-use Rattle.machine.specs.Slot.{passed, ranCount, noReport, slotReport, afterSlot}
-use Rattle.machine.specs.Cores.{runnerOrder, slotAssignment, withAssigned}
-use Rattle.machine.specs.Offer.{offerVerdict, offerChecked, heldSound}
-use Rattle.machine.specs.Sound.{jobsSound, sound}
-use Rattle.machine.specs.Calls.{done, refuse, startAfter, start, release, finish, slotCoresInRange, slot, offerAfter, offer, withJoined, commitHeld, commit, step}
+use Rattle.tasks.proofs.Computing.{computing_tables}
+use Rattle.judge.proofs.Computing.{computing_verdicts}
+use Rattle.job.proofs.Computing.{computing_jobs}
+use Rattle.cores.proofs.Computing.{computing_cores}
+use Rattle.machine.specs.Machine.{zero_machine, task_at, job_at, with_job, holding, in_table}
+use Rattle.machine.specs.Pick.{open_count, waiting, precedes, candidates, with_picked, pick, runner_count, runners}
+use Rattle.machine.specs.Slot.{passed, ran_count, no_report, slot_report, after_slot}
+use Rattle.machine.specs.Cores.{runner_order, slot_assignment, with_assigned}
+use Rattle.machine.specs.Offer.{offer_verdict, offer_checked, held_sound}
+use Rattle.machine.specs.Sound.{jobs_sound, sound}
+use Rattle.machine.specs.Calls.{done, refuse, start_after, start, release, finish, slot_cores_in_range, slot, offer_after, offer, with_joined, commit_held, commit, step}
 use Rattle.machine.specs.Play.{play}
-use Rattle.machine.specs.InTime.{isSlot, acceptedSlot}
+use Rattle.machine.specs.InTime.{is_slot, accepted_slot}
 use Rattle.tasks.specs.Flags.{mask}
-use Rattle.tasks.specs.Outcome.{firstRefusal}
-use Rattle.judge.specs.SlackJudge.{admissionValuesOf}
+use Rattle.tasks.specs.Outcome.{first_refusal}
+use Rattle.judge.specs.SlackJudge.{admission_values_of}
 
 unfoldable pub computing : Bool
 unfolding
-    computingTables computingVerdicts computingJobs computingCores
-    zeroMachine taskAt jobAt withJob holding in_table
-    openCount waiting precedes candidates withPicked pick runnerCount runners
-    passed ranCount noReport slotReport afterSlot
-    runnerOrder slotAssignment withAssigned
-    firstRefusal admissionValuesOf offerVerdict offerChecked heldSound
-    jobsSound sound
-    done refuse startAfter start release finish slotCoresInRange slot offerAfter offer withJoined commitHeld commit step play
-    isSlot acceptedSlot
+    computing_tables computing_verdicts computing_jobs computing_cores
+    zero_machine task_at job_at with_job holding in_table
+    open_count waiting precedes candidates with_picked pick runner_count runners
+    passed ran_count no_report slot_report after_slot
+    runner_order slot_assignment with_assigned
+    first_refusal admission_values_of offer_verdict offer_checked held_sound
+    jobs_sound sound
+    done refuse start_after start release finish slot_cores_in_range slot offer_after offer with_joined commit_held commit step play
+    is_slot accepted_slot
     mask
 computing = true

@@ -1,6 +1,6 @@
 -- The runners that the machine picks for k cores are a legal choice in the theory's sense, whichever k from its own number of cores on:
--- `runners-legal`. A slot that is not refused by 14 has so many, and at most 16: `enough-cores` and `few-cores`. The runners are as many as
--- `runnerCount` says: `runners-number`. Where as many run as are open, all that are open do: `all-ran`.
+-- `runners_legal`. A slot that is not refused by 14 has so many, and at most 16: `enough_cores` and `few_cores`. The runners are as many as
+-- `runner_count` says: `runners_number`. Where as many run as are open, all that are open do: `all_ran`.
 use Prim.Native.Nat.{ℕ, ◌≤◌, ◌<◌}
 use mathlib.Core.Path.{◌≡◌}
 use mathlib.Core.Bool.{Bool, true, false}
@@ -10,87 +10,87 @@ use native.Mathlib.Omega.{arith}
 use lib.Dec.{leb}
 use lib.ListN.{get_or}
 use borrow.Author.Tests.{leb-true, le-leb, lt-leb}
-use Rattle.laws.proofs.CaseSplits.{by_order, by-test, not-both}
+use Rattle.laws.proofs.CaseSplits.{by_order, by_test, not_both}
 use Rattle.laws.proofs.Booleans.{and_left, and_right}
 use Rattle.laws.specs.Sums.{bit}
-use Rattle.laws.proofs.SumLaws.{sum-strict, bit-true, bit-false, bit-monotone}
-use Rattle.edzl.proofs.Choice.{Beats, more-urgent, both-urgent, neither-urgent, LegalChoice}
-use Rattle.tasks.specs.Limits.{maxTasks, maxCores}
-use Rattle.job.specs.Job.{isUrgent}
-use Rattle.job.proofs.Order.{by-urgency, by_left, holds}
-use Rattle.machine.specs.Machine.{jobAt}
-use Rattle.machine.specs.Pick.{openCount, precedes, candidates, runnerCount, runners}
-use Rattle.machine.specs.Slot.{ranCount}
+use Rattle.laws.proofs.SumLaws.{sum_strict, bit_true, bit_false, bit_monotone}
+use Rattle.edzl.proofs.Choice.{Beats, more_urgent, both_urgent, neither_urgent, LegalChoice}
+use Rattle.tasks.specs.Limits.{max_tasks, max_cores}
+use Rattle.job.specs.Job.{is_urgent}
+use Rattle.job.proofs.Order.{by_urgency_lem, by_left, holds}
+use Rattle.machine.specs.Machine.{job_at}
+use Rattle.machine.specs.Pick.{open_count, precedes, candidates, runner_count, runners}
+use Rattle.machine.specs.Slot.{ran_count}
 use Rattle.machine.specs.Sound.{sound}
-use Rattle.machine.specs.Calls.{slotCoresInRange}
+use Rattle.machine.specs.Calls.{slot_cores_in_range}
 use Rattle.machine.specs.declared.machine.Machine.{Machine}
-use Rattle.machine.proofs.State.{jobsOf}
-use Rattle.machine.proofs.SoundLaws.{sound-passes}
+use Rattle.machine.proofs.State.{jobs_of}
+use Rattle.machine.proofs.SoundLaws.{sound_passes}
 use Rattle.machine.proofs.SlotStep.{LegalSlot}
-use Rattle.machine.proofs.Waiting.{open-waits}
+use Rattle.machine.proofs.Waiting.{open_waits}
 use Rattle.machine.proofs.PickLaws.{Picked, picks}
 
 -- An open task that beats another in the theory's sense precedes it.
-module _ (m : Machine) (x y : ℕ) (open-x : (jobAt m x).«open» ≡ true) (open-y : (jobAt m y).«open» ≡ true) where
-  beats-precedes : Beats (jobsOf m) x y → precedes m x y ≡ true
-  unfolding jobsOf isUrgent precedes
-  beats-precedes (more-urgent u c) = holds _ x _ y (by-urgency (rw (open-x, le-leb _ _ u)) (rw (open-y, lt-leb _ _ c)))
-  beats-precedes (both-urgent u v l) = holds _ x _ y (by_left (rw (open-x, le-leb _ _ u, open-y, le-leb _ _ v)) l)
-  beats-precedes (neither-urgent c d l) = holds _ x _ y (by_left (rw (open-x, lt-leb _ _ c, open-y, lt-leb _ _ d)) l)
+module _ (m : Machine) (x y : ℕ) (open-x : (job_at m x).«open» ≡ true) (open-y : (job_at m y).«open» ≡ true) where
+  beats_precedes : Beats (jobs_of m) x y → precedes m x y ≡ true
+  unfolding jobs_of is_urgent precedes
+  beats_precedes (more_urgent u c) = holds _ x _ y (by_urgency_lem (rw (open-x, le-leb _ _ u)) (rw (open-y, lt-leb _ _ c)))
+  beats_precedes (both_urgent u v l) = holds _ x _ y (by_left (rw (open-x, le-leb _ _ u, open-y, le-leb _ _ v)) l)
+  beats_precedes (neither_urgent c d l) = holds _ x _ y (by_left (rw (open-x, lt-leb _ _ c, open-y, lt-leb _ _ d)) l)
 
 -- Where only open tasks run, and as many as are open, every open task runs.
-pub all-ran :
-    (m : Machine) (ran : List Bool) → ((i : ℕ) → i < m.table.count → get_or ran i false ≡ true → (jobAt m i).«open» ≡ true)
-    → openCount m ≤ ranCount m ran → (i : ℕ) → i < m.table.count → (jobAt m i).«open» ≡ true → get_or ran i false ≡ true
-unfolding openCount ranCount
-all-ran m ran opened enough i l o =
-    by-test (get_or ran i false)
+pub all_ran :
+    (m : Machine) (ran : List Bool) → ((i : ℕ) → i < m.table.count → get_or ran i false ≡ true → (job_at m i).«open» ≡ true)
+    → open_count m ≤ ran_count m ran → (i : ℕ) → i < m.table.count → (job_at m i).«open» ≡ true → get_or ran i false ≡ true
+unfolding open_count ran_count
+all_ran m ran opened enough i l o =
+    by_test (get_or ran i false)
     (λ runs. runs)
     (λ idle.
     absurd
     (omega (
       arith,
-      sum-strict (λ j. bit (get_or ran j false)) (λ j. bit (jobAt m j).«open») m.table.count i l
-          (λ j h. bit-monotone (get_or ran j false) (jobAt m j).«open» (opened j h))
-          (omega (arith, bit-false (get_or ran i false) idle, bit-true (jobAt m i).«open» o)),
+      sum_strict (λ j. bit (get_or ran j false)) (λ j. bit (job_at m j).«open») m.table.count i l
+          (λ j h. bit_monotone (get_or ran j false) (job_at m j).«open» (opened j h))
+          (omega (arith, bit_false (get_or ran i false) idle, bit_true (job_at m i).«open» o)),
     )))
 
-module _ (m : Machine) (k : ℕ) (fits : m.table.count ≤ maxTasks) where
-  all-runners : Picked m (runnerCount m k)
-  unfolding runnerCount
-  all-runners = picks m fits (runnerCount m k) (omega arith)
+module _ (m : Machine) (k : ℕ) (fits : m.table.count ≤ max_tasks) where
+  all_runners : Picked m (runner_count m k)
+  unfolding runner_count
+  all_runners = picks m fits (runner_count m k) (omega arith)
 
-  runner-open : (i : ℕ) → get_or (runners m k) i false ≡ true → (jobAt m i).«open» ≡ true
+  runner_open : (i : ℕ) → get_or (runners m k) i false ≡ true → (job_at m i).«open» ≡ true
   unfolding runners
-  runner-open = all-runners.opened
+  runner_open = all_runners.opened
 
-  pub runners-number : ranCount m (runners m k) ≡ runnerCount m k
-  unfolding runners ranCount
-  runners-number = all-runners.number
+  pub runners_number : ran_count m (runners m k) ≡ runner_count m k
+  unfolding runners ran_count
+  runners_number = all_runners.number
 
-  legal-choice : m.cores ≤ k → LegalChoice m.table.count m.cores (λ i. get_or (runners m k) i false) (jobsOf m)
-  unfolding jobsOf candidates ranCount runnerCount runners
-  legal-choice enough =
+  legal_choice : m.cores ≤ k → LegalChoice m.table.count m.cores (λ i. get_or (runners m k) i false) (jobs_of m)
+  unfolding jobs_of candidates ran_count runner_count runners
+  legal_choice enough =
       record {
-        runner-open = λ i h. runner-open i;
+        runner_open = λ i h. runner_open i;
         enough =
-            by_order k (openCount m)
-            (λ h. inl (omega (arith, runners-number)))
-            (λ h. inr (all-ran m (runners m k) (λ i h. runner-open i) (omega (arith, runners-number))));
-        none-beaten = λ x y x-in y-in open-x idle runs beats.
-            not-both (precedes m x y)
-            (beats-precedes m x y open-x (runner-open y runs) beats)
-            (all-runners.first y runs x x-in (open-waits m (runners m k) x open-x idle));
+            by_order k (open_count m)
+            (λ h. inl (omega (arith, runners_number)))
+            (λ h. inr (all_ran m (runners m k) (λ i h. runner_open i) (omega (arith, runners_number))));
+        none_beaten_lem = λ x y x-in y-in open-x idle runs beats.
+            not_both (precedes m x y)
+            (beats_precedes m x y open-x (runner_open y runs) beats)
+            (all_runners.first y runs x x-in (open_waits m (runners m k) x open-x idle));
       }
 
-pub enough-cores : (m : Machine) (k : ℕ) → slotCoresInRange m k ≡ true → m.cores ≤ k
-unfolding slotCoresInRange
-enough-cores m k in-range = leb-true _ _ (and_left _ _ in-range)
+pub enough_cores : (m : Machine) (k : ℕ) → slot_cores_in_range m k ≡ true → m.cores ≤ k
+unfolding slot_cores_in_range
+enough_cores m k in_range_lem = leb-true _ _ (and_left _ _ in_range_lem)
 
-pub few-cores : (m : Machine) (k : ℕ) → slotCoresInRange m k ≡ true → k ≤ maxCores
-unfolding slotCoresInRange
-few-cores m k in-range = leb-true _ _ (and_right (leb m.cores k) _ in-range)
+pub few_cores : (m : Machine) (k : ℕ) → slot_cores_in_range m k ≡ true → k ≤ max_cores
+unfolding slot_cores_in_range
+few_cores m k in_range_lem = leb-true _ _ (and_right (leb m.cores k) _ in_range_lem)
 
-pub runners-legal : (m : Machine) (k : ℕ) → sound m ≡ true → m.cores ≤ k → LegalSlot m (runners m k)
-runners-legal m k is-sound enough =
-    record { is-sound = is-sound; choice = legal-choice m k (sound-passes m is-sound).count_fits enough }
+pub runners_legal : (m : Machine) (k : ℕ) → sound m ≡ true → m.cores ≤ k → LegalSlot m (runners m k)
+runners_legal m k is_sound enough =
+    record { is_sound = is_sound; choice = legal_choice m k (sound_passes m is_sound).count_fits enough }

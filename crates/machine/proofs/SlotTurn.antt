@@ -1,5 +1,5 @@
 -- A slot task by task, as the code goes. Others cite `Turned`, the state after the first i tasks, with `turned_none` and `turned_more`, and
--- `turned-all`, that after all of them it is the definition's answer.
+-- `turned_all`, that after all of them it is the definition's answer.
 use Prim.Native.Nat.{ℕ, ◌+◌}
 use mathlib.Core.Path.{◌≡◌, refl, ap, ◌∙◌}
 use mathlib.Core.Bool.{Bool, false}
@@ -8,34 +8,34 @@ use native.Mathlib.Nat.{le_refl}
 use native.Mathlib.Numerals.{add-one}
 use lib.ListN.{get_or, set, replicate}
 use Rattle.tasks.specs.declared.outcome.Outcome.TheVariants.{Done}
-use Rattle.tasks.specs.Limits.{maxTasks}
-use Rattle.job.specs.Job.{freshJob}
-use Rattle.machine.specs.Machine.{jobAt}
-use Rattle.job.specs.Slot.{charged, aged, isFinished, isLate, settled}
-use Rattle.machine.specs.Slot.{passed, ranCount, slotReport, afterSlot}
-use Rattle.machine.specs.Cores.{withAssigned}
+use Rattle.tasks.specs.Limits.{max_tasks}
+use Rattle.job.specs.Job.{fresh_job}
+use Rattle.machine.specs.Machine.{job_at}
+use Rattle.job.specs.Slot.{charged, aged, is_finished, is_late, settled}
+use Rattle.machine.specs.Slot.{passed, ran_count, slot_report, after_slot}
+use Rattle.machine.specs.Cores.{with_assigned}
 use Rattle.laws.specs.Lists.{replaced}
 use Rattle.laws.specs.Sums.{sum_to, bit}
-use Rattle.laws.proofs.Replaced.{replaced-past}
+use Rattle.laws.proofs.Replaced.{replaced_past}
 use Rattle.job.specs.declared.job.Job.{Job}
 use Rattle.machine.specs.declared.machine.Machine.{Machine}
 use Rattle.machine.specs.declared.answer.Answer.{Answer}
 
 -- the machine m and two lists of the report after the first i tasks of m₀ have passed the slot in which `ran` says who ran and `assigned` where
 pub record Turned (m₀ : Machine) (ran : List Bool) (assigned : List ℕ) (m : Machine) (finished late : List Bool) (runners i : ℕ) : Type 0 where
-  pub same-table : m.table ≡ m₀.table
-  pub same-cores : m.cores ≡ m₀.cores
-  pub jobs-are : m.jobs ≡ replaced i (λ k. settled (passed m₀ ran k)) m₀.jobs
-  pub assigned-are : m.assigned ≡ replaced i (λ k. get_or assigned k 0) m₀.assigned
-  pub same-held : m.held ≡ m₀.held
-  pub finished-are : finished ≡ replaced i (λ k. isFinished (passed m₀ ran k)) (replicate maxTasks false)
-  pub late-are : late ≡ replaced i (λ k. isLate (passed m₀ ran k)) (replicate maxTasks false)
+  pub same_table : m.table ≡ m₀.table
+  pub same_cores : m.cores ≡ m₀.cores
+  pub jobs_are : m.jobs ≡ replaced i (λ k. settled (passed m₀ ran k)) m₀.jobs
+  pub assigned_are : m.assigned ≡ replaced i (λ k. get_or assigned k 0) m₀.assigned
+  pub same_held : m.held ≡ m₀.held
+  pub finished_are : finished ≡ replaced i (λ k. is_finished (passed m₀ ran k)) (replicate max_tasks false)
+  pub late_are : late ≡ replaced i (λ k. is_late (passed m₀ ran k)) (replicate max_tasks false)
   pub counted : runners ≡ sum_to i (λ k. bit (get_or ran k false))
 
-pub turned_none : (m : Machine) (ran : List Bool) (assigned : List ℕ) → Turned m ran assigned m (replicate maxTasks false) (replicate maxTasks false) 0 0
+pub turned_none : (m : Machine) (ran : List Bool) (assigned : List ℕ) → Turned m ran assigned m (replicate max_tasks false) (replicate max_tasks false) 0 0
 unfolding replaced sum_to
 turned_none m ran assigned =
-    record { same-table = refl; same-cores = refl; jobs-are = refl; assigned-are = refl; same-held = refl; finished-are = refl; late-are = refl; counted = refl }
+    record { same_table = refl; same_cores = refl; jobs_are = refl; assigned_are = refl; same_held = refl; finished_are = refl; late_are = refl; counted = refl }
 
 module _
     (m₀ : Machine)
@@ -47,13 +47,13 @@ module _
     (t : Turned m₀ ran assigned m finished late runners i)
   where
     -- the job at i has not passed yet
-    pub job-before : get_or m.jobs i freshJob ≡ jobAt m₀ i
-    unfolding jobAt
-    job-before = rw t.jobs-are (replaced-past (λ k. settled (passed m₀ ran k)) m₀.jobs freshJob i i (le_refl i))
+    pub job_before : get_or m.jobs i fresh_job ≡ job_at m₀ i
+    unfolding job_at
+    job_before = rw t.jobs_are (replaced_past (λ k. settled (passed m₀ ran k)) m₀.jobs fresh_job i i (le_refl i))
 
     -- one task more
     pub turned_more :
-        (j : Job) → j ≡ aged (charged (get_or ran i false) (get_or m.jobs i freshJob)) → (n : ℕ) → n ≡ runners + bit (get_or ran i false)
+        (j : Job) → j ≡ aged (charged (get_or ran i false) (get_or m.jobs i fresh_job)) → (n : ℕ) → n ≡ runners + bit (get_or ran i false)
         → Turned m₀ ran assigned
         (record {
           table = m.table;
@@ -62,33 +62,33 @@ module _
           assigned = set m.assigned i (get_or assigned i 0);
           held = m.held;
         })
-        (set finished i (isFinished j)) (set late i (isLate j)) n (i + 1)
+        (set finished i (is_finished j)) (set late i (is_late j)) n (i + 1)
     unfolding replaced passed sum_to
     turned_more j e n more =
-        let p : j ≡ passed m₀ ran i = e ∙ ap (λ (x : Job). aged (charged (get_or ran i false) x)) job-before in
+        let p : j ≡ passed m₀ ran i = e ∙ ap (λ (x : Job). aged (charged (get_or ran i false) x)) job_before in
         record {
-          same-table = t.same-table;
-          same-cores = t.same-cores;
-          jobs-are = rw (add-one i, p, t.jobs-are);
-          assigned-are = rw (add-one i, t.assigned-are);
-          same-held = t.same-held;
-          finished-are = rw (add-one i, p, t.finished-are);
-          late-are = rw (add-one i, p, t.late-are);
+          same_table = t.same_table;
+          same_cores = t.same_cores;
+          jobs_are = rw (add-one i, p, t.jobs_are);
+          assigned_are = rw (add-one i, t.assigned_are);
+          same_held = t.same_held;
+          finished_are = rw (add-one i, p, t.finished_are);
+          late_are = rw (add-one i, p, t.late_are);
           counted = rw (add-one i, more, t.counted);
         }
 
 -- after every task
-pub turned-all :
+pub turned_all :
     (m₀ : Machine) (ran : List Bool) (assigned : List ℕ) (m : Machine) (finished late : List Bool) (n : ℕ)
     → Turned m₀ ran assigned m finished late n m₀.table.count
     → ◌≡◌ {A = Answer}
     (record { machine = m; outcome = Done; report = record { ran = ran; finished = finished; late = late; runners = n; assigned = assigned } })
-    (record { machine = withAssigned (afterSlot m₀ ran) assigned; outcome = Done; report = slotReport m₀ ran assigned })
-unfolding afterSlot withAssigned slotReport ranCount
-turned-all m₀ ran assigned m finished late n t =
+    (record { machine = with_assigned (after_slot m₀ ran) assigned; outcome = Done; report = slot_report m₀ ran assigned })
+unfolding after_slot with_assigned slot_report ran_count
+turned_all m₀ ran assigned m finished late n t =
     λ i. record {
       machine =
-          record { table = t.same-table i; cores = t.same-cores i; jobs = t.jobs-are i; assigned = t.assigned-are i; held = t.same-held i };
+          record { table = t.same_table i; cores = t.same_cores i; jobs = t.jobs_are i; assigned = t.assigned_are i; held = t.same_held i };
       outcome = Done;
-      report = record { ran = ran; finished = t.finished-are i; late = t.late-are i; runners = t.counted i; assigned = assigned };
+      report = record { ran = ran; finished = t.finished_are i; late = t.late_are i; runners = t.counted i; assigned = assigned };
     }

@@ -1,4 +1,4 @@
--- The number of a task of a sound machine: `KnownTask`, and `known-task`. Its index is within the table and the arrays.
+-- The number of a task of a sound machine: `KnownTask`, and `known_task`. Its index is within the table and the arrays.
 use Prim.Native.Nat.{ℕ, ◌-◌, ◌≤◌, ◌<◌}
 use native.Mathlib.Omega.{arith}
 use mathlib.Core.Path.{◌≡◌}
@@ -9,24 +9,24 @@ use Rattle.laws.proofs.Booleans.{and_left, and_right}
 use Rattle.machine.specs.Sound.{sound}
 use Rattle.machine.specs.Machine.{in_table}
 use Rattle.machine.specs.declared.machine.Machine.{Machine}
-use Rattle.machine.proofs.SoundLaws.{sound-passes}
+use Rattle.machine.proofs.SoundLaws.{sound_passes}
 
 pub record KnownTask (m : Machine) (number : ℕ) : Type 0 where
-  pub is-sound : sound m ≡ true
-  pub in-table : in_table m number ≡ true
+  pub is_sound : sound m ≡ true
+  pub in_table_lem : in_table m number ≡ true
   pub some : 1 ≤ number
   pub inside : number - 1 < m.table.count
   pub index : number - 1 < 32
 
-pub known-task : (m : Machine) (number : ℕ) → sound m ≡ true → in_table m number ≡ true → KnownTask m number
+pub known_task : (m : Machine) (number : ℕ) → sound m ≡ true → in_table m number ≡ true → KnownTask m number
 unfolding in_table
-known-task m number is-sound in-table =
-    let some = leb-true 1 number (and_left _ _ in-table) in
-    let fits = leb-true number m.table.count (and_right (leb 1 number) _ in-table) in
+known_task m number is_sound in_table_lem =
+    let some = leb-true 1 number (and_left _ _ in_table_lem) in
+    let fits = leb-true number m.table.count (and_right (leb 1 number) _ in_table_lem) in
     record {
-      is-sound = is-sound;
-      in-table = in-table;
+      is_sound = is_sound;
+      in_table_lem = in_table_lem;
       some = some;
       inside = omega arith;
-      index = omega (arith, (sound-passes m is-sound).count_fits);
+      index = omega (arith, (sound_passes m is_sound).count_fits);
     }

@@ -6,16 +6,16 @@ use Rattle.tasks.specs.declared.task.Task.{Task}
 use Rattle.tasks.specs.declared.table.Table.{Table}
 use Rattle.tasks.specs.declared.outcome.Outcome.{Outcome}
 use Rattle.tasks.specs.declared.outcome.Outcome.TheVariants.{Done, Refused}
-use Rattle.tasks.specs.Limits.{maxTasks, maxCores}
-use Rattle.tasks.specs.Refusals.{unsoundMachine, noSuchTask, releasedTooSoon, jobNotOpen, slotCoresOutOfRange, needOutOfRange, noHeldTask}
-use Rattle.tasks.specs.Table.{withTask}
+use Rattle.tasks.specs.Limits.{max_tasks, max_cores}
+use Rattle.tasks.specs.Refusals.{unsound_machine, no_such_task, released_too_soon, job_not_open, slot_cores_out_of_range, need_out_of_range, no_held_task}
+use Rattle.tasks.specs.Table.{with_task}
 use Rattle.tasks.specs.Check.{checked}
-use Rattle.job.specs.Job.{freshJob, needInRange, releasedJob, closedJob}
-use Rattle.machine.specs.Machine.{zeroMachine, taskAt, jobAt, withJob, holding, in_table}
+use Rattle.job.specs.Job.{fresh_job, need_in_range, released_job, closed_job}
+use Rattle.machine.specs.Machine.{zero_machine, task_at, job_at, with_job, holding, in_table}
 use Rattle.machine.specs.Pick.{runners}
-use Rattle.machine.specs.Slot.{noReport, slotReport, afterSlot}
-use Rattle.machine.specs.Cores.{slotAssignment, withAssigned}
-use Rattle.machine.specs.Offer.{offerChecked}
+use Rattle.machine.specs.Slot.{no_report, slot_report, after_slot}
+use Rattle.machine.specs.Cores.{slot_assignment, with_assigned}
+use Rattle.machine.specs.Offer.{offer_checked}
 use Rattle.machine.specs.Sound.{sound}
 use Rattle.machine.specs.declared.held.Held.{Held}
 use Rattle.machine.specs.declared.held.Held.TheVariants.{None, Offered}
@@ -26,92 +26,92 @@ use Rattle.machine.specs.declared.answer.Answer.{Answer}
 
 -- a call that is carried out and reports nothing
 unfoldable pub done : Machine → Answer
-done m = record { machine = m; outcome = Done; report = noReport }
+done m = record { machine = m; outcome = Done; report = no_report }
 
 -- "a refused call the same machine"; "every other refusal .. carries 0"
 unfoldable pub refuse : Machine → (number : ℕ) → Answer
-refuse m number = record { machine = m; outcome = Refused number 0; report = noReport }
+refuse m number = record { machine = m; outcome = Refused number 0; report = no_report }
 
 -- a start, after the refusals of starting were tried: "A fresh machine has every task closed and all three numbers 0"; change 4: "no core, .. at a
 -- start"; it holds no task
-unfoldable pub startAfter : Outcome → Table → (cores : ℕ) → Answer
-startAfter Done t cores =
-    done (record { table = t; cores = cores; jobs = replicate maxTasks freshJob; assigned = replicate maxTasks 0; held = None })
-startAfter (Refused number place) t cores =
-    record { machine = zeroMachine; outcome = Refused number place; report = noReport }
+unfoldable pub start_after : Outcome → Table → (cores : ℕ) → Answer
+start_after Done t cores =
+    done (record { table = t; cores = cores; jobs = replicate max_tasks fresh_job; assigned = replicate max_tasks 0; held = None })
+start_after (Refused number place) t cores =
+    record { machine = zero_machine; outcome = Refused number place; report = no_report }
 
 -- "Judging or starting a given table"; "The machine starts on refused tables too (admission is a separate verdict)."
 unfoldable pub start : Table → (cores : ℕ) → Answer
-start t cores = startAfter (checked t cores) t cores
+start t cores = start_after (checked t cores) t cores
 
 -- "Release: 8, 9, 10", after 0, where change 3 takes "number 10 out of the list"; change 5: "A release now names e", and "number 15, tried after 8 and
 -- before 9"
 unfoldable pub release : Machine → (number need : ℕ) → Answer
 release m number need =
     let i = number - 1 in
-    cond (not (sound m)) (refuse m unsoundMachine)
-    (cond (not (in_table m number)) (refuse m noSuchTask)
-    (cond (not (needInRange (taskAt m i) need)) (refuse m needOutOfRange)
-    (cond (ltb 0 (jobAt m i).gap) (refuse m releasedTooSoon) (done (withJob m i (releasedJob (taskAt m i) need))))))
+    cond (not (sound m)) (refuse m unsound_machine)
+    (cond (not (in_table m number)) (refuse m no_such_task)
+    (cond (not (need_in_range (task_at m i) need)) (refuse m need_out_of_range)
+    (cond (ltb 0 (job_at m i).gap) (refuse m released_too_soon) (done (with_job m i (released_job (task_at m i) need))))))
 
 -- "Finish: 8, 11", after 0
 unfoldable pub finish : Machine → (number : ℕ) → Answer
 finish m number =
     let i = number - 1 in
-    cond (not (sound m)) (refuse m unsoundMachine)
-    (cond (not (in_table m number)) (refuse m noSuchTask)
-    (cond (not (jobAt m i).«open») (refuse m jobNotOpen) (done (withJob m i (closedJob (jobAt m i))))))
+    cond (not (sound m)) (refuse m unsound_machine)
+    (cond (not (in_table m number)) (refuse m no_such_task)
+    (cond (not (job_at m i).«open») (refuse m job_not_open) (done (with_job m i (closed_job (job_at m i))))))
 
 -- change 1: "A slot with k below m or above 16", the other way round
-unfoldable pub slotCoresInRange : Machine → (k : ℕ) → Bool
-slotCoresInRange m k = leb m.cores k && leb k maxCores
+unfoldable pub slot_cores_in_range : Machine → (k : ℕ) → Bool
+slot_cores_in_range m k = leb m.cores k && leb k max_cores
 
 -- change 1: "A slot call now names how many cores it has, k"; "number 14, tried after 0; machine unchanged"; change 4: the machine
 -- records the cores that are answered
 unfoldable pub slot : Machine → (k : ℕ) → Answer
 slot m k =
     let ran = runners m k in
-    let assigned = slotAssignment m k in
-    cond (not (sound m)) (refuse m unsoundMachine)
-    (cond (not (slotCoresInRange m k)) (refuse m slotCoresOutOfRange)
-    (record { machine = withAssigned (afterSlot m ran) assigned; outcome = Done; report = slotReport m ran assigned }))
+    let assigned = slot_assignment m k in
+    cond (not (sound m)) (refuse m unsound_machine)
+    (cond (not (slot_cores_in_range m k)) (refuse m slot_cores_out_of_range)
+    (record { machine = with_assigned (after_slot m ran) assigned; outcome = Done; report = slot_report m ran assigned }))
 
 -- steps 2 to 4 of a slot in which these tasks ran, whoever chose them, after 0: change 11 has a log of "another maker's dispatcher", which names no cores, so
 -- none is recorded; a flag of a closed task changes nothing but the report
-unfoldable pub slotWith : Machine → (ran : List Bool) → Answer
-slotWith m ran =
-    let assigned : List ℕ = replicate maxTasks 0 in
-    cond (not (sound m)) (refuse m unsoundMachine)
-    (record { machine = withAssigned (afterSlot m ran) assigned; outcome = Done; report = slotReport m ran assigned })
+unfoldable pub slot_with : Machine → (ran : List Bool) → Answer
+slot_with m ran =
+    let assigned : List ℕ = replicate max_tasks 0 in
+    cond (not (sound m)) (refuse m unsound_machine)
+    (record { machine = with_assigned (after_slot m ran) assigned; outcome = Done; report = slot_report m ran assigned })
 
 -- an offer, after its checks: "holds the task in the machine, displacing an earlier offer; a refused offer changes nothing"
-unfoldable pub offerAfter : Outcome → Machine → Task → Answer
-offerAfter Done m t = done (holding m (Offered t))
-offerAfter (Refused number place) m t = record { machine = m; outcome = Refused number place; report = noReport }
+unfoldable pub offer_after : Outcome → Machine → Task → Answer
+offer_after Done m t = done (holding m (Offered t))
+offer_after (Refused number place) m t = record { machine = m; outcome = Refused number place; report = no_report }
 
 -- change 10: "Offer runs join's checks", after 0
 unfoldable pub offer : Machine → Task → Answer
-offer m t = cond (not (sound m)) (refuse m unsoundMachine) (offerAfter (offerChecked m.table m.cores t) m t)
+offer m t = cond (not (sound m)) (refuse m unsound_machine) (offer_after (offer_checked m.table m.cores t) m t)
 
 -- "added at the end of the table, closed, gap 0", with no core; change 10: "and holds none"
-unfoldable pub withJoined : Machine → Task → Machine
-withJoined m t =
+unfoldable pub with_joined : Machine → Task → Machine
+with_joined m t =
     record {
-      table = withTask m.table t;
+      table = with_task m.table t;
       cores = m.cores;
-      jobs = set m.jobs m.table.count freshJob;
+      jobs = set m.jobs m.table.count fresh_job;
       assigned = set m.assigned m.table.count 0;
       held = None;
     }
 
 -- a commit, by what the machine holds: "Commit adds the held task"; "Commit with no held task: number 17"
-unfoldable pub commitHeld : Held → Machine → Answer
-commitHeld None m = refuse m noHeldTask
-commitHeld (Offered t) m = done (withJoined m t)
+unfoldable pub commit_held : Held → Machine → Answer
+commit_held None m = refuse m no_held_task
+commit_held (Offered t) m = done (with_joined m t)
 
 -- change 10: number 17, after 0
 unfoldable pub commit : Machine → Answer
-commit m = cond (not (sound m)) (refuse m unsoundMachine) (commitHeld m.held m)
+commit m = cond (not (sound m)) (refuse m unsound_machine) (commit_held m.held m)
 
 -- "A call is one of release, finish, slot and join"; change 10: "Join becomes two calls."
 unfoldable pub step : Machine → Call → Answer

@@ -1,33 +1,33 @@
 -- The machine: document 01, "The slot machine".
 use Rattle.std.specs.Prelude.{ℕ, Bool, ◌&&◌, leb, get_or, set, replicate}
 use Rattle.tasks.specs.declared.task.Task.{Task}
-use Rattle.tasks.specs.Limits.{maxTasks}
-use Rattle.tasks.specs.Table.{emptyTable, zeroTask}
+use Rattle.tasks.specs.Limits.{max_tasks}
+use Rattle.tasks.specs.Table.{empty_table, zero_task}
 use Rattle.job.specs.declared.job.Job.{Job}
-use Rattle.job.specs.Job.{freshJob}
+use Rattle.job.specs.Job.{fresh_job}
 use Rattle.machine.specs.declared.held.Held.{Held}
 use Rattle.machine.specs.declared.held.Held.TheVariants.{None}
 use Rattle.machine.specs.declared.machine.Machine.{Machine}
 
 -- "a machine of zeros", which holds no task
-unfoldable pub zeroMachine : Machine
-zeroMachine = record { table = emptyTable; cores = 0; jobs = replicate maxTasks freshJob; assigned = replicate maxTasks 0; held = None }
+unfoldable pub zero_machine : Machine
+zero_machine = record { table = empty_table; cores = 0; jobs = replicate max_tasks fresh_job; assigned = replicate max_tasks 0; held = None }
 
 -- the task at an index, from 0
-unfoldable pub taskAt : Machine → ℕ → Task
-taskAt m i = get_or m.table.tasks i zeroTask
+unfoldable pub task_at : Machine → ℕ → Task
+task_at m i = get_or m.table.tasks i zero_task
 
 -- the job of the task at an index, from 0
-unfoldable pub jobAt : Machine → ℕ → Job
-jobAt m i = get_or m.jobs i freshJob
+unfoldable pub job_at : Machine → ℕ → Job
+job_at m i = get_or m.jobs i fresh_job
 
 -- the core recorded for the task at an index, from 0: document 02, change 4; 0 is "no core"
-unfoldable pub coreAt : Machine → ℕ → ℕ
-coreAt m i = get_or m.assigned i 0
+unfoldable pub core_at : Machine → ℕ → ℕ
+core_at m i = get_or m.assigned i 0
 
 -- the machine with another job at an index
-unfoldable pub withJob : Machine → ℕ → Job → Machine
-withJob m i j = record { table = m.table; cores = m.cores; jobs = set m.jobs i j; assigned = m.assigned; held = m.held }
+unfoldable pub with_job : Machine → ℕ → Job → Machine
+with_job m i j = record { table = m.table; cores = m.cores; jobs = set m.jobs i j; assigned = m.assigned; held = m.held }
 
 -- the machine that holds this task, or none: document 02, change 10
 unfoldable pub holding : Machine → Held → Machine

@@ -1,4 +1,4 @@
--- A list of calls played on a machine: document 01, "The slot machine". `play` gives what is answered, `machineAfter` the machine after it.
+-- A list of calls played on a machine: document 01, "The slot machine". `play` gives what is answered, `machine_after` the machine after it.
 use Rattle.std.specs.Prelude.{List, [], ◌∷◌}
 use Rattle.tasks.specs.declared.outcome.Outcome.{Outcome}
 use Rattle.machine.specs.Calls.{step}
@@ -20,6 +20,6 @@ play m (call ∷ calls) =
     record { call = call; outcome = answer.outcome; report = answer.report } ∷ play answer.machine calls
 
 -- the machine after a list of calls
-unfoldable pub machineAfter : Machine → List Call → Machine
-machineAfter m [] = m
-machineAfter m (call ∷ calls) = machineAfter (step m call).machine calls
+unfoldable pub machine_after : Machine → List Call → Machine
+machine_after m [] = m
+machine_after m (call ∷ calls) = machine_after (step m call).machine calls

@@ -2,47 +2,47 @@
 use Rattle.std.specs.Prelude.{ℕ, Bool, false, List, get_or, replicate}
 use Rattle.laws.specs.Lists.{replaced}
 use Rattle.laws.specs.Sums.{sum_to, bit}
-use Rattle.tasks.specs.Limits.{maxTasks}
+use Rattle.tasks.specs.Limits.{max_tasks}
 use Rattle.job.specs.declared.job.Job.{Job}
-use Rattle.job.specs.Slot.{charged, aged, isFinished, isLate, settled}
-use Rattle.machine.specs.Machine.{jobAt}
+use Rattle.job.specs.Slot.{charged, aged, is_finished, is_late, settled}
+use Rattle.machine.specs.Machine.{job_at}
 use Rattle.machine.specs.declared.machine.Machine.{Machine}
 use Rattle.machine.specs.declared.answer.Report.{Report}
 
 -- the job of the task at an index after steps 2 and 3
 unfoldable pub passed : Machine → (ran : List Bool) → ℕ → Job
-passed m ran i = aged (charged (get_or ran i false) (jobAt m i))
+passed m ran i = aged (charged (get_or ran i false) (job_at m i))
 
 -- "the number that ran"
-unfoldable pub ranCount : Machine → (ran : List Bool) → ℕ
-ranCount m ran = sum_to m.table.count (λ i. bit (get_or ran i false))
+unfoldable pub ran_count : Machine → (ran : List Bool) → ℕ
+ran_count m ran = sum_to m.table.count (λ i. bit (get_or ran i false))
 
 -- "a refused slot names no task and gives 0 runners", and no core; every call that is no slot reports the same
-unfoldable pub noReport : Report
-noReport =
+unfoldable pub no_report : Report
+no_report =
     record {
-      ran = replicate maxTasks false;
-      finished = replicate maxTasks false;
-      late = replicate maxTasks false;
+      ran = replicate max_tasks false;
+      finished = replicate max_tasks false;
+      late = replicate max_tasks false;
       runners = 0;
-      assigned = replicate maxTasks 0;
+      assigned = replicate max_tasks 0;
     }
 
 -- "The answer tells for each task whether it ran, finished, was late, and gives the number that ran."; document 02, change 4: "The slot answer gains the
 -- core of each runner."
-unfoldable pub slotReport : Machine → (ran : List Bool) → (assigned : List ℕ) → Report
-slotReport m ran assigned =
+unfoldable pub slot_report : Machine → (ran : List Bool) → (assigned : List ℕ) → Report
+slot_report m ran assigned =
     record {
       ran = ran;
-      finished = replaced m.table.count (λ i. isFinished (passed m ran i)) (replicate maxTasks false);
-      late = replaced m.table.count (λ i. isLate (passed m ran i)) (replicate maxTasks false);
-      runners = ranCount m ran;
+      finished = replaced m.table.count (λ i. is_finished (passed m ran i)) (replicate max_tasks false);
+      late = replaced m.table.count (λ i. is_late (passed m ran i)) (replicate max_tasks false);
+      runners = ran_count m ran;
       assigned = assigned;
     }
 
 -- the machine after steps 2 to 4
-unfoldable pub afterSlot : Machine → (ran : List Bool) → Machine
-afterSlot m ran =
+unfoldable pub after_slot : Machine → (ran : List Bool) → Machine
+after_slot m ran =
     record {
       table = m.table;
       cores = m.cores;

@@ -1,6 +1,6 @@
 // What a call answers.
 ghost use Rattle.std.specs.Prelude.{◌≡◌};
-ghost use Rattle.machine.specs.Slot.{noReport};
+ghost use Rattle.machine.specs.Slot.{no_report};
 ghost use Rattle.machine.specs.Calls.{done, refuse};
 
 use crate::machine::Machine;
@@ -31,7 +31,7 @@ pub struct Answer {
 impl Report {
     // A report that names no task.
     pub fn none() -> Self
-        ensures { result ≡ noReport }
+        ensures { result ≡ no_report }
     {
         Report {
             ran: [false; MAX_TASKS],

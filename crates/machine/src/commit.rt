@@ -1,7 +1,7 @@
 // A commit.
 ghost use Rattle.std.specs.Prelude.{◌<◌, ◌≡◌};
-ghost use Rattle.tasks.specs.Limits.{maxTasks};
-ghost use Rattle.machine.specs.Calls.{withJoined, commit};
+ghost use Rattle.tasks.specs.Limits.{max_tasks};
+ghost use Rattle.machine.specs.Calls.{with_joined, commit};
 
 use crate::answer::Answer;
 use crate::held::Held;
@@ -13,8 +13,8 @@ use tasks::task::Task;
 impl Machine {
     // The machine with the task at the end of its table, closed, with no core; it holds none.
     fn with_joined(self, task: Task) -> Self
-        requires { self.table.count < maxTasks }
-        ensures { result ≡ withJoined self task }
+        requires { self.table.count < max_tasks }
+        ensures { result ≡ with_joined self task }
     {
         let count = self.table.count;
         let table = self.longer_table(task);

@@ -1,10 +1,10 @@
 // What a machine holds, and the checks of an offer.
 ghost use Rattle.std.specs.Prelude.{◌<◌, ◌≡◌};
-ghost use Rattle.tasks.specs.Limits.{maxTasks};
-ghost use Rattle.tasks.specs.Table.{withTask};
-ghost use Rattle.judge.specs.SlackJudge.{admissionValuesOf};
+ghost use Rattle.tasks.specs.Limits.{max_tasks};
+ghost use Rattle.tasks.specs.Table.{with_task};
+ghost use Rattle.judge.specs.SlackJudge.{admission_values_of};
 ghost use Rattle.machine.specs.Machine.{holding};
-ghost use Rattle.machine.specs.Offer.{offerVerdict};
+ghost use Rattle.machine.specs.Offer.{offer_verdict};
 
 use crate::machine::Machine;
 use judge::admission::Admission;
@@ -39,8 +39,8 @@ impl Machine {
 
     // The table with the task at its end.
     pub(crate) fn longer_table(self, task: Task) -> Table
-        requires { self.table.count < maxTasks }
-        ensures { result ≡ withTask self.table task }
+        requires { self.table.count < max_tasks }
+        ensures { result ≡ with_task self.table task }
     {
         let mut table = self.table;
         let count = table.count;
@@ -51,7 +51,7 @@ impl Machine {
 
     // The slack test's verdict on the table with the offered task, or the refusal by 5 or 12. What is held plays no part.
     pub(crate) fn offer_verdict(self, task: Task) -> Admission
-        ensures { admissionValuesOf result ≡ offerVerdict self.table self.cores task }
+        ensures { admission_values_of result ≡ offer_verdict self.table self.cores task }
     {
         if !task.in_range() {
             return Admission::Refused {

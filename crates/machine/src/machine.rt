@@ -1,7 +1,7 @@
 // The machine, and the numbers of its tasks.
 ghost use Rattle.std.specs.Prelude.{◌<◌, ◌≡◌};
-ghost use Rattle.tasks.specs.Limits.{maxTasks};
-ghost use Rattle.machine.specs.Machine.{withJob, in_table};
+ghost use Rattle.tasks.specs.Limits.{max_tasks};
+ghost use Rattle.machine.specs.Machine.{with_job, in_table};
 
 use crate::held::Held;
 use job::job::Job;
@@ -31,8 +31,8 @@ impl Machine {
     }
     // The machine with another job at an index.
     pub(crate) fn with_job(mut self, i: usize, job: Job) -> Self
-        requires { i < maxTasks }
-        ensures { result ≡ withJob self i job }
+        requires { i < max_tasks }
+        ensures { result ≡ with_job self i job }
     {
         self.jobs[i] = job;
         self

@@ -1,10 +1,10 @@
 // A slot: the pick of its runners, their cores, and what it does to every job.
 ghost use Rattle.std.specs.Prelude.{◌≤◌, ◌≡◌};
 ghost use Rattle.tasks.specs.declared.outcome.Outcome.TheVariants.{Done};
-ghost use Rattle.tasks.specs.Limits.{maxTasks};
-ghost use Rattle.machine.specs.Slot.{afterSlot, slotReport};
-ghost use Rattle.machine.specs.Cores.{withAssigned};
-ghost use Rattle.machine.specs.Calls.{slotCoresInRange, slot};
+ghost use Rattle.tasks.specs.Limits.{max_tasks};
+ghost use Rattle.machine.specs.Slot.{after_slot, slot_report};
+ghost use Rattle.machine.specs.Cores.{with_assigned};
+ghost use Rattle.machine.specs.Calls.{slot_cores_in_range, slot};
 
 use crate::answer::{Answer, Report};
 use crate::machine::Machine;
@@ -18,8 +18,8 @@ use tasks::table::PerTask;
 impl Machine {
     // Steps 2 to 4 of a slot in which these tasks ran on these cores, which the machine records.
     pub(crate) fn after_running(mut self, ran: Flags, assigned: PerTask) -> Answer
-        requires { self.table.count ≤ maxTasks }
-        ensures { result ≡ record { machine = withAssigned (afterSlot self ran) assigned; outcome = Done; report = slotReport self ran assigned } }
+        requires { self.table.count ≤ max_tasks }
+        ensures { result ≡ record { machine = with_assigned (after_slot self ran) assigned; outcome = Done; report = slot_report self ran assigned } }
     {
         let count = self.table.count;
         let mut finished = [false; MAX_TASKS];
@@ -53,7 +53,7 @@ impl Machine {
 
     // Whether a slot may have so many cores: as many as the machine's, or more.
     fn slot_cores_in_range(self, available: u32) -> bool
-        ensures { result ≡ slotCoresInRange self available }
+        ensures { result ≡ slot_cores_in_range self available }
     {
         if available < self.cores {
             return false;

@@ -1,6 +1,6 @@
 // A slot whose runners are given.
 ghost use Rattle.std.specs.Prelude.{◌≡◌};
-ghost use Rattle.machine.specs.Calls.{slotWith};
+ghost use Rattle.machine.specs.Calls.{slot_with};
 
 use crate::answer::Answer;
 use crate::machine::Machine;
@@ -11,7 +11,7 @@ use tasks::refusals::UNSOUND_MACHINE;
 impl Machine {
     // Steps 2 to 4 of a slot in which these tasks ran, whoever chose them. It records no core.
     pub fn slot_with(self, ran: Flags) -> Answer
-        ensures { result ≡ slotWith self ran }
+        ensures { result ≡ slot_with self ran }
     {
         if !self.is_sound() {
             return Answer::refused(self, UNSOUND_MACHINE);

@@ -1,9 +1,9 @@
 // Whether a machine that is handed in is sound.
 ghost use Rattle.std.specs.Prelude.{◌≤◌, ◌≡◌};
-ghost use Rattle.tasks.specs.Limits.{maxTasks};
-ghost use Rattle.tasks.specs.Outcome.{isDone};
-ghost use Rattle.machine.specs.Offer.{offerChecked};
-ghost use Rattle.machine.specs.Sound.{jobsSound, sound};
+ghost use Rattle.tasks.specs.Limits.{max_tasks};
+ghost use Rattle.tasks.specs.Outcome.{is_done};
+ghost use Rattle.machine.specs.Offer.{offer_checked};
+ghost use Rattle.machine.specs.Sound.{jobs_sound, sound};
 
 use crate::held::Held;
 use crate::machine::Machine;
@@ -16,8 +16,8 @@ use tasks::task::Task;
 impl Machine {
     // Whether the job of every task is sound.
     fn jobs_sound(self) -> bool
-        requires { self.table.count ≤ maxTasks }
-        ensures { result ≡ jobsSound self self.table.count }
+        requires { self.table.count ≤ max_tasks }
+        ensures { result ≡ jobs_sound self self.table.count }
     {
         let table = self.table;
         let count = table.count;
@@ -35,7 +35,7 @@ impl Machine {
 
     // Whether an offer of the task would be taken.
     fn takes_offer(self, task: Task) -> bool
-        ensures { result ≡ isDone (offerChecked self.table self.cores task) }
+        ensures { result ≡ is_done (offer_checked self.table self.cores task) }
     {
         let verdict = self.offer_verdict(task);
         let Admission::Judged { admitted } = verdict else {

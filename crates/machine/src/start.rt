@@ -1,6 +1,6 @@
 // A start.
 ghost use Rattle.std.specs.Prelude.{◌≡◌};
-ghost use Rattle.machine.specs.Machine.{zeroMachine};
+ghost use Rattle.machine.specs.Machine.{zero_machine};
 ghost use Rattle.machine.specs.InTime.{Started};
 
 use crate::answer::{Answer, Report};
@@ -14,7 +14,7 @@ use tasks::table::Table;
 
 // A machine of zeros.
 pub fn zero_machine() -> Machine
-    ensures { result ≡ zeroMachine }
+    ensures { result ≡ zero_machine }
 {
     let table = Table::empty();
     let fresh = fresh_job();

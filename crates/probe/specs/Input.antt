@@ -2,23 +2,23 @@
 -- DEADLINE OPEN LEFT OWED GAP CORE` .., then a line `NONE`, or `HELD T C D` for the task that the machine holds, then one call line as in replay, and
 -- nothing after it".
 use Rattle.std.specs.Prelude.{ℕ, ◌+◌, List, Bool, cond, ◌&&◌, ◌||◌, eqb, leb, length, drop, set, replicate}
-use Rattle.text.specs.Lines.{lineEnd, has, before, after, firstIs, is_empty, field}
-use Rattle.text.specs.Words.{sameBytes, beginsWith}
+use Rattle.text.specs.Lines.{line_end, has, before, after, first_is, is_empty, field}
+use Rattle.text.specs.Words.{same_bytes, begins_with}
 use Rattle.text.specs.Number.{decimal}
-use Rattle.text.specs.Fields.{areNumbers}
-use Rattle.tasks.specs.Limits.{maxTasks}
-use Rattle.tasks.specs.Table.{zeroTask}
+use Rattle.text.specs.Fields.{are_numbers}
+use Rattle.tasks.specs.Limits.{max_tasks}
+use Rattle.tasks.specs.Table.{zero_task}
 use Rattle.tasks.specs.declared.task.Task.{Task}
-use Rattle.job.specs.Job.{freshJob}
+use Rattle.job.specs.Job.{fresh_job}
 use Rattle.job.specs.declared.job.Job.{Job}
 use Rattle.machine.specs.declared.held.Held.{Held}
 use Rattle.machine.specs.declared.held.Held.TheVariants.{None, Offered}
 use Rattle.machine.specs.declared.machine.Machine.{Machine}
-use Rattle.script.specs.Numbers.{maxDigits, maxNumber}
-use Rattle.script.specs.Calls.{fieldsTask, call_of}
+use Rattle.script.specs.Numbers.{max_digits, max_number}
+use Rattle.script.specs.Calls.{fields_task, call_of}
 use Rattle.script.specs.declared.calls.CallLine.{CallLine}
 use Rattle.script.specs.declared.calls.CallLine.TheVariants as CallLine
-use Rattle.probe.specs.Words.{machineWord, noneWord, heldWord}
+use Rattle.probe.specs.Words.{machine_word, none_word, held_word}
 use Rattle.probe.specs.declared.input.FirstLine.{FirstLine}
 use Rattle.probe.specs.declared.input.FirstLine.TheVariants as First
 use Rattle.probe.specs.declared.input.EntryLine.{EntryLine}
@@ -29,44 +29,44 @@ use Rattle.probe.specs.declared.input.Asked.{Asked}
 use Rattle.probe.specs.declared.input.Asked.TheVariants as Asked
 
 -- "`MACHINE count cores`", where "count and cores are such numbers"
-unfoldable pub isMachineLine : List ℕ → Bool
-isMachineLine l = beginsWith machineWord l && areNumbers maxDigits maxNumber 2 (drop (length machineWord) l)
+unfoldable pub is_machine_line : List ℕ → Bool
+is_machine_line l = begins_with machine_word l && are_numbers max_digits max_number 2 (drop (length machine_word) l)
 
 -- the count of such a line
 unfoldable pub count_of : List ℕ → ℕ
-count_of l = decimal (field 0 (drop (length machineWord) l))
+count_of l = decimal (field 0 (drop (length machine_word) l))
 
 -- the cores of such a line
-unfoldable pub coresOf : List ℕ → ℕ
-coresOf l = decimal (field 1 (drop (length machineWord) l))
+unfoldable pub cores_of : List ℕ → ℕ
+cores_of l = decimal (field 1 (drop (length machine_word) l))
 
 -- the machine of this count and these cores before its entries are read: they are all zero, and it holds none
-unfoldable pub zeroEntries : (count cores : ℕ) → Machine
-zeroEntries count cores =
+unfoldable pub zero_entries : (count cores : ℕ) → Machine
+zero_entries count cores =
     record {
-      table = record { count = count; tasks = replicate maxTasks zeroTask };
+      table = record { count = count; tasks = replicate max_tasks zero_task };
       cores = cores;
-      jobs = replicate maxTasks freshJob;
-      assigned = replicate maxTasks 0;
+      jobs = replicate max_tasks fresh_job;
+      assigned = replicate max_tasks 0;
       held = None;
     }
 
 -- "eight numbers `PERIOD BUDGET DEADLINE OPEN LEFT OWED GAP CORE`", where "OPEN is 0 or 1"
-unfoldable pub isEntryLine : List ℕ → Bool
-isEntryLine l = areNumbers maxDigits maxNumber 8 l && leb (decimal (field 3 l)) 1
+unfoldable pub is_entry_line : List ℕ → Bool
+is_entry_line l = are_numbers max_digits max_number 8 l && leb (decimal (field 3 l)) 1
 
 -- the job of such a line, whose task is that of its first three fields: "OWED the budget still owed"
-unfoldable pub entryJob : List ℕ → Job
-entryJob l =
+unfoldable pub entry_job : List ℕ → Job
+entry_job l =
     record { «open» = eqb (decimal (field 3 l)) 1; left = decimal (field 4 l); budget = decimal (field 5 l); gap = decimal (field 6 l) }
 
 -- the core of such a line: "CORE the recorded core"
-unfoldable pub entryCore : List ℕ → ℕ
-entryCore l = decimal (field 7 l)
+unfoldable pub entry_core : List ℕ → ℕ
+entry_core l = decimal (field 7 l)
 
 -- a machine with another task, job and core at an index: the lines are "one for each entry of the machine"
-unfoldable pub withEntry : Machine → ℕ → Task → Job → (core : ℕ) → Machine
-withEntry m i t j core =
+unfoldable pub with_entry : Machine → ℕ → Task → Job → (core : ℕ) → Machine
+with_entry m i t j core =
     record {
       table = record { count = m.table.count; tasks = set m.table.tasks i t };
       cores = m.cores;
@@ -76,39 +76,39 @@ withEntry m i t j core =
     }
 
 -- "a line `NONE`, or `HELD T C D`"
-unfoldable pub isHeldLine : List ℕ → Bool
-isHeldLine l = sameBytes l noneWord || (beginsWith heldWord l && areNumbers maxDigits maxNumber 3 (drop (length heldWord) l))
+unfoldable pub is_held_line : List ℕ → Bool
+is_held_line l = same_bytes l none_word || (begins_with held_word l && are_numbers max_digits max_number 3 (drop (length held_word) l))
 
 -- what such a line says that the machine holds
 unfoldable pub held_of : List ℕ → Held
-held_of l = cond (sameBytes l noneWord) None (Offered (fieldsTask (drop (length heldWord) l)))
+held_of l = cond (same_bytes l none_word) None (Offered (fields_task (drop (length held_word) l)))
 
 -- for the contract of a private function: what the first line of a text says as the machine's, and how many bytes it has with its byte 10
-unfoldable pub firstLine : List ℕ → FirstLine
-firstLine s =
-    let l = before lineEnd s in cond (firstIs isMachineLine s) (First.Read (count_of l) (coresOf l) (length l + 1)) First.Bad
+unfoldable pub first_line : List ℕ → FirstLine
+first_line s =
+    let l = before line_end s in cond (first_is is_machine_line s) (First.Read (count_of l) (cores_of l) (length l + 1)) First.Bad
 
 -- for the contract of another: what the first line of a text says as an entry's, and how many bytes it has with its byte 10
-unfoldable pub entryFrom : List ℕ → EntryLine
-entryFrom s = let l = before lineEnd s in cond (firstIs isEntryLine s) (Entry.Read (fieldsTask l) (entryJob l) (entryCore l) (length l + 1)) Entry.Bad
+unfoldable pub entry_from : List ℕ → EntryLine
+entry_from s = let l = before line_end s in cond (first_is is_entry_line s) (Entry.Read (fields_task l) (entry_job l) (entry_core l) (length l + 1)) Entry.Bad
 
 -- for the contract of a third: what the first line of a text says that the machine holds, and how many bytes it has with its byte 10
-unfoldable pub heldFrom : List ℕ → HeldLine
-heldFrom s = let l = before lineEnd s in cond (firstIs isHeldLine s) (HeldLine.Read (held_of l) (length l + 1)) HeldLine.Bad
+unfoldable pub held_from : List ℕ → HeldLine
+held_from s = let l = before line_end s in cond (first_is is_held_line s) (HeldLine.Read (held_of l) (length l + 1)) HeldLine.Bad
 
 -- the number of the line of what the machine holds: the line of the machine and one for each entry stand before it
-abbrev pub heldNumber : ℕ
-heldNumber = 1 + maxTasks + 1
+abbrev pub held_number : ℕ
+held_number = 1 + max_tasks + 1
 
 -- "the call's line is line 35", and the last
-abbrev pub callNumber : ℕ
-callNumber = heldNumber + 1
+abbrev pub call_number : ℕ
+call_number = held_number + 1
 
 -- the call of the last line, after which nothing may follow: "after 35 good lines anything that follows is line 36"
-unfoldable pub onlyCall : CallLine → (following : List ℕ) → Asked
-onlyCall (CallLine.Read call) following = cond (is_empty following) (Asked.Read call) (Asked.Bad (callNumber + 1))
-onlyCall CallLine.Bad following = Asked.Bad callNumber
+unfoldable pub only_call : CallLine → (following : List ℕ) → Asked
+only_call (CallLine.Read call) following = cond (is_empty following) (Asked.Read call) (Asked.Bad (call_number + 1))
+only_call CallLine.Bad following = Asked.Bad call_number
 
 -- the same of a text that begins with the last line: it is bad too where it "is not ended, or is missing"
-unfoldable pub lastLine : List ℕ → Asked
-lastLine s = cond (has lineEnd s) (onlyCall (call_of (before lineEnd s)) (after lineEnd s)) (Asked.Bad callNumber)
+unfoldable pub last_line : List ℕ → Asked
+last_line s = cond (has line_end s) (only_call (call_of (before line_end s)) (after line_end s)) (Asked.Bad call_number)

@@ -1,48 +1,48 @@
 -- The lines of a machine (docs/HANDBOOK.md, "Probing one call"): "`MACHINE count cores`, 32 lines of eight numbers, and `NONE` or `HELD
 -- T C D`".
 use Rattle.std.specs.Prelude.{ℕ, zero, suc, ◌+◌, ◌*◌, List, [], ◌∷◌, ◌++◌, cond, length}
-use Rattle.text.specs.Lines.{lineEnd}
-use Rattle.text.specs.Output.{numbersLine}
-use Rattle.tasks.specs.Limits.{maxTasks}
+use Rattle.text.specs.Lines.{line_end}
+use Rattle.text.specs.Output.{numbers_line}
+use Rattle.tasks.specs.Limits.{max_tasks}
 use Rattle.tasks.specs.declared.task.Task.{Task}
 use Rattle.job.specs.declared.job.Job.{Job}
-use Rattle.machine.specs.Machine.{taskAt, jobAt, coreAt}
+use Rattle.machine.specs.Machine.{task_at, job_at, core_at}
 use Rattle.machine.specs.declared.machine.Machine.{Machine}
 use Rattle.machine.specs.declared.held.Held.{Held}
 use Rattle.machine.specs.declared.held.Held.TheVariants.{None, Offered}
-use Rattle.probe.specs.Words.{machineWord, noneWord, heldWord}
+use Rattle.probe.specs.Words.{machine_word, none_word, held_word}
 
 -- "`PERIOD BUDGET DEADLINE OPEN LEFT OWED GAP CORE`"
-unfoldable pub entryLine : Task → Job → (core : ℕ) → List ℕ
-entryLine t j core = numbersLine (t.period ∷ t.budget ∷ t.deadline ∷ cond j.«open» 1 0 ∷ j.left ∷ j.budget ∷ j.gap ∷ core ∷ [])
+unfoldable pub entry_line : Task → Job → (core : ℕ) → List ℕ
+entry_line t j core = numbers_line (t.period ∷ t.budget ∷ t.deadline ∷ cond j.«open» 1 0 ∷ j.left ∷ j.budget ∷ j.gap ∷ core ∷ [])
 
 -- the lines of so many entries from the index i on
-unfoldable pub entryLines : Machine → (i more : ℕ) → List ℕ
-entryLines m i zero = []
-entryLines m i (suc more) = entryLine (taskAt m i) (jobAt m i) (coreAt m i) ++ entryLines m (suc i) more
+unfoldable pub entry_lines : Machine → (i more : ℕ) → List ℕ
+entry_lines m i zero = []
+entry_lines m i (suc more) = entry_line (task_at m i) (job_at m i) (core_at m i) ++ entry_lines m (suc i) more
 
 -- "`NONE` or `HELD T C D`"
-unfoldable pub heldLine : Held → List ℕ
-heldLine None = noneWord ++ lineEnd ∷ []
-heldLine (Offered t) = heldWord ++ numbersLine (t.period ∷ t.budget ∷ t.deadline ∷ [])
+unfoldable pub held_line : Held → List ℕ
+held_line None = none_word ++ line_end ∷ []
+held_line (Offered t) = held_word ++ numbers_line (t.period ∷ t.budget ∷ t.deadline ∷ [])
 
 -- all lines of a machine, those of the entries "past the count too"
-unfoldable pub machineLines : Machine → List ℕ
-machineLines m = machineWord ++ numbersLine (m.table.count ∷ m.cores ∷ []) ++ entryLines m 0 maxTasks ++ heldLine m.held
+unfoldable pub machine_lines : Machine → List ℕ
+machine_lines m = machine_word ++ numbers_line (m.table.count ∷ m.cores ∷ []) ++ entry_lines m 0 max_tasks ++ held_line m.held
 
 -- bytes that are enough for the line of an entry: eight numbers of ten digits, and a byte after each
-abbrev pub entryRoom : ℕ
-entryRoom = 8 * (10 + 1)
+abbrev pub entry_room : ℕ
+entry_room = 8 * (10 + 1)
 
 -- bytes that are enough for the lines of all entries
-abbrev pub entriesRoom : ℕ
-entriesRoom = entryRoom * maxTasks
+abbrev pub entries_room : ℕ
+entries_room = entry_room * max_tasks
 
 -- bytes that are enough for the line of what is held: its word with the space, three numbers of ten digits, and a byte after each
-abbrev pub heldRoom : ℕ
-heldRoom = length heldWord + 3 * (10 + 1)
+abbrev pub held_room : ℕ
+held_room = length held_word + 3 * (10 + 1)
 
 -- bytes that are enough for all lines of a machine: its word with the space, a count of at most 20 digits, cores of ten, a byte after either, the lines
 -- of the entries, and that of what is held
-abbrev pub machineRoom : ℕ
-machineRoom = length machineWord + (20 + 1) + (10 + 1) + entriesRoom + heldRoom
+abbrev pub machine_room : ℕ
+machine_room = length machine_word + (20 + 1) + (10 + 1) + entries_room + held_room

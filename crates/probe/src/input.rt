@@ -1,8 +1,8 @@
 // What the lines of the input say. A text starts here with the line that is read; a length is that of a line with its byte 10.
 ghost use Rattle.std.specs.Prelude.{◌<◌, ◌≡◌};
-ghost use Rattle.tasks.specs.Limits.{maxTasks};
-ghost use Rattle.probe.specs.Input.{firstLine, zeroEntries, entryFrom, withEntry, heldFrom, lastLine};
-ghost use Rattle.probe.specs.Printed.{printedAsked, printedHeld, printedFrom, printed};
+ghost use Rattle.tasks.specs.Limits.{max_tasks};
+ghost use Rattle.probe.specs.Input.{first_line, zero_entries, entry_from, with_entry, held_from, last_line};
+ghost use Rattle.probe.specs.Printed.{printed_asked, printed_held, printed_from, printed};
 
 use job::job::{Job, fresh_job};
 use machine::call::Call;
@@ -68,7 +68,7 @@ pub struct Input {
 
 // The count and the cores.
 fn first_line(text: &[u8]) -> FirstLine
-    ensures { result ≡ firstLine text.now }
+    ensures { result ≡ first_line text.now }
 {
     let length = bytes::find(text, b'\n');
     if text.len() <= length {
@@ -92,7 +92,7 @@ fn first_line(text: &[u8]) -> FirstLine
 
 // A machine before its entries are read.
 fn zero_entries(count: u32, cores: u32) -> Machine
-    ensures { result ≡ zeroEntries count cores }
+    ensures { result ≡ zero_entries count cores }
 {
     let mut table = Table::empty();
     table.count = count as usize;
@@ -108,7 +108,7 @@ fn zero_entries(count: u32, cores: u32) -> Machine
 
 // A task, its job and its recorded core.
 fn entry_line(text: &[u8]) -> EntryLine
-    ensures { result ≡ entryFrom text.now }
+    ensures { result ≡ entry_from text.now }
 {
     let length = bytes::find(text, b'\n');
     if text.len() <= length {
@@ -140,8 +140,8 @@ fn entry_line(text: &[u8]) -> EntryLine
 
 // The machine with another task, job and core at an index.
 fn with_entry(mut machine: Machine, i: usize, task: Task, job: Job, core: u32) -> Machine
-    requires { i < maxTasks }
-    ensures { result ≡ withEntry machine i task job core }
+    requires { i < max_tasks }
+    ensures { result ≡ with_entry machine i task job core }
 {
     let mut table = machine.table;
     table.tasks[i] = task;
@@ -153,7 +153,7 @@ fn with_entry(mut machine: Machine, i: usize, task: Task, job: Job, core: u32) -
 
 // What the machine holds.
 fn held_line(text: &[u8]) -> HeldLine
-    ensures { result ≡ heldFrom text.now }
+    ensures { result ≡ held_from text.now }
 {
     let length = bytes::find(text, b'\n');
     if text.len() <= length {
@@ -181,7 +181,7 @@ fn held_line(text: &[u8]) -> HeldLine
 
 // The call of the last line, which nothing follows.
 fn last_line(text: &[u8]) -> Asked
-    ensures { result ≡ lastLine text.now }
+    ensures { result ≡ last_line text.now }
 {
     let length = bytes::find(text, b'\n');
     if text.len() <= length {
@@ -198,7 +198,7 @@ fn last_line(text: &[u8]) -> Asked
 
 // Reads the lines after the entries: what the machine holds, and the call.
 fn read_held(text: &[u8], machine: Machine) -> Input
-    ensures { printedHeld machine text.now ≡ printedAsked result.machine result.asked }
+    ensures { printed_held machine text.now ≡ printed_asked result.machine result.asked }
 {
     let HeldLine::Read { held, length } = held_line(text) else {
         return Input {
@@ -213,7 +213,7 @@ fn read_held(text: &[u8], machine: Machine) -> Input
 
 // Reads the lines after the first: the entries of the machine, what it holds, and the call.
 fn read_entries(text: &[u8], mut machine: Machine) -> Input
-    ensures { printedFrom machine 0 maxTasks text.now ≡ printedAsked result.machine result.asked }
+    ensures { printed_from machine 0 max_tasks text.now ≡ printed_asked result.machine result.asked }
 {
     let mut at: usize = 0;
     let mut i: usize = 0;
@@ -239,7 +239,7 @@ fn read_entries(text: &[u8], mut machine: Machine) -> Input
 
 // Reads a text.
 pub fn read(text: &[u8]) -> Input
-    ensures { printed text.now ≡ printedAsked result.machine result.asked }
+    ensures { printed text.now ≡ printed_asked result.machine result.asked }
 {
     let FirstLine::Read {
         count,

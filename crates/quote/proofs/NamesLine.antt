@@ -1,4 +1,4 @@
--- The reading of a text by its length and its names line: `too_long`, `names-unended`, `not-names` and `names-read`.
+-- The reading of a text by its length and its names line: `too_long`, `names_unended`, `not_names` and `names_read`.
 use Prim.Native.Nat.{ℕ, ◌≤◌, ◌<◌}
 use mathlib.Core.Path.{◌≡◌}
 use mathlib.Core.Bool.{true, false}
@@ -6,31 +6,31 @@ use mathlib.Core.List.{List}
 use borrow.Author.Tests.{lt-ltb, le-ltb}
 use lib.ListN.{length, take}
 use Rattle.laws.proofs.Parts.{past}
-use Rattle.text.specs.Lines.{lineEnd, before}
-use Rattle.text.specs.Words.{sameBytes}
+use Rattle.text.specs.Lines.{line_end, before}
+use Rattle.text.specs.Words.{same_bytes}
 use Rattle.text.proofs.Split.{cut}
-use Rattle.text.proofs.FirstLine.{not-ended, first-is}
-use Rattle.tasks.specs.Limits.{maxTasks, maxTextLength}
-use Rattle.tasks.specs.Refusals.{textTooLong, badNamesLine}
-use Rattle.ranges.specs.Ranges.{emptyRanges}
-use Rattle.quote.specs.Names.{rangeNames}
-use Rattle.quote.specs.Reading.{refused, isNames, rangeLines, reading}
+use Rattle.text.proofs.FirstLine.{not_ended_lem, first_is_lem}
+use Rattle.tasks.specs.Limits.{max_tasks, max_text_length}
+use Rattle.tasks.specs.Refusals.{text_too_long, bad_names_line}
+use Rattle.ranges.specs.Ranges.{empty_ranges}
+use Rattle.quote.specs.Names.{range_names}
+use Rattle.quote.specs.Reading.{refused, is_names, range_lines, reading}
 
 module _ (s : List ℕ) where
-  pub too_long : maxTextLength < length s → refused textTooLong 0 ≡ reading s
+  pub too_long : max_text_length < length s → refused text_too_long 0 ≡ reading s
   unfolding reading
-  too_long h = rw (lt-ltb maxTextLength (length s) h)
+  too_long h = rw (lt-ltb max_text_length (length s) h)
 
-  module _ (fits : length s ≤ maxTextLength) (k : ℕ) (e : k ≡ length (before lineEnd s)) where
-    pub names-unended : length s ≤ k → refused badNamesLine 0 ≡ reading s
+  module _ (fits : length s ≤ max_text_length) (k : ℕ) (e : k ≡ length (before line_end s)) where
+    pub names_unended : length s ≤ k → refused bad_names_line 0 ≡ reading s
     unfolding reading
-    names-unended h = rw (le-ltb maxTextLength (length s) fits, not-ended isNames s k e h)
+    names_unended h = rw (le-ltb max_text_length (length s) fits, not_ended_lem is_names s k e h)
 
     module _ (h : k < length s) where
-      pub not-names : sameBytes (take k s) rangeNames ≡ false → refused badNamesLine 0 ≡ reading s
-      unfolding reading isNames
-      not-names n = rw (le-ltb maxTextLength (length s) fits, first-is isNames s k e h, n)
+      pub not_names : same_bytes (take k s) range_names ≡ false → refused bad_names_line 0 ≡ reading s
+      unfolding reading is_names
+      not_names n = rw (le-ltb max_text_length (length s) fits, first_is_lem is_names s k e h, n)
 
-      pub names-read : sameBytes (take k s) rangeNames ≡ true → rangeLines maxTasks emptyRanges (past s k) ≡ reading s
-      unfolding reading isNames
-      names-read n = rw (le-ltb maxTextLength (length s) fits, first-is isNames s k e h, n, ← (cut lineEnd s k e h).rest)
+      pub names_read : same_bytes (take k s) range_names ≡ true → range_lines max_tasks empty_ranges (past s k) ≡ reading s
+      unfolding reading is_names
+      names_read n = rw (le-ltb max_text_length (length s) fits, first_is_lem is_names s k e h, n, ← (cut line_end s k e h).rest)

@@ -1,5 +1,5 @@
 -- The ranged task of the value line that a text begins with, by what was found of the line. Others cite `unended`, `not_five` and `line_read`, what the reader
--- answers; `LineRead`, what an answer says of the text, with `line-is`; and `line-broken`.
+-- answers; `LineRead`, what an answer says of the text, with `line_is`; and `line_broken`.
 use Prim.Native.Nat.{ℕ, ◌+◌, ◌≤◌, ◌<◌}
 use native.Mathlib.Omega.{arith}
 use mathlib.Core.Path.{◌≡◌, refl, sym, ◌∙◌}
@@ -8,19 +8,19 @@ use mathlib.Core.List.{List}
 use lib.Dec.{eqb}
 use lib.ListN.{length, get_or, take, replicate}
 use Rattle.laws.proofs.CaseSplits.{by_cond, clash}
-use Rattle.laws.proofs.Parts.{from, from-drop}
-use Rattle.text.specs.Lines.{lineEnd, before, after, firstIs, field, fieldCount}
+use Rattle.laws.proofs.Parts.{from, from_drop}
+use Rattle.text.specs.Lines.{line_end, before, after, first_is, field, field_count}
 use Rattle.text.specs.Number.{decimal}
-use Rattle.text.specs.Fields.{eachNumber, areNumbers, FilledFromLine}
+use Rattle.text.specs.Fields.{each_number, are_numbers, FilledFromLine}
 use Rattle.text.proofs.Split.{Cut, cut, here}
-use Rattle.text.proofs.FirstLine.{is-ended, not-ended, first-is}
-use Rattle.text.proofs.NumberLaws.{no-limit}
-use Rattle.text.proofs.FilledFromLine.{entry-is}
+use Rattle.text.proofs.FirstLine.{is_ended, not_ended_lem, first_is_lem}
+use Rattle.text.proofs.NumberLaws.{no_limit}
+use Rattle.text.proofs.FilledFromLine.{entry_is}
 use Rattle.reader.specs.Value.{is_value}
 use Rattle.ranges.specs.declared.task.RangedTask.{RangedTask}
 use Rattle.quote.specs.declared.reading.RangeLine.TheVariants.{Read, Broken}
-use Rattle.quote.specs.Reading.{fiveValues, rangedTaskOf}
-use Rattle.quote.specs.Parts.{rangeLine}
+use Rattle.quote.specs.Reading.{five_values, ranged_task_of}
+use Rattle.quote.specs.Parts.{range_line}
 
 -- the digits of a value, and the largest of so many
 abbrev pub digits : ℕ
@@ -39,21 +39,21 @@ six true true true true false f = refl
 six true true true true true false = refl
 six true true true true true true = refl
 
-five-are : (l : List ℕ) → areNumbers digits largest 5 l ≡ fiveValues l
-unfolding areNumbers eachNumber fiveValues is_value field
-five-are l =
-    simp (no-limit digits largest (omega arith))
-    (six (eqb (fieldCount l) 5) (is_value (field 0 l)) (is_value (field 1 l)) (is_value (field 2 l)) (is_value (field 3 l)) (is_value (field 4 l)))
+five_are : (l : List ℕ) → are_numbers digits largest 5 l ≡ five_values l
+unfolding are_numbers each_number five_values is_value field
+five_are l =
+    simp (no_limit digits largest (omega arith))
+    (six (eqb (field_count l) 5) (is_value (field 0 l)) (is_value (field 1 l)) (is_value (field 2 l)) (is_value (field 3 l)) (is_value (field 4 l)))
 
-module _ (s : List ℕ) (k : ℕ) (e : k ≡ length (before lineEnd s)) where
-  pub unended : length s ≤ k → Broken ≡ rangeLine s
-  unfolding rangeLine
-  unended h = rw (not-ended fiveValues s k e h)
+module _ (s : List ℕ) (k : ℕ) (e : k ≡ length (before line_end s)) where
+  pub unended : length s ≤ k → Broken ≡ range_line s
+  unfolding range_line
+  unended h = rw (not_ended_lem five_values s k e h)
 
   module _ (h : k < length s) where
-    pub not_five : areNumbers digits largest 5 (take k s) ≡ false → Broken ≡ rangeLine s
-    unfolding rangeLine
-    not_five n = rw (first-is fiveValues s k e h, ← five-are (take k s), n)
+    pub not_five : are_numbers digits largest 5 (take k s) ≡ false → Broken ≡ range_line s
+    unfolding range_line
+    not_five n = rw (first_is_lem five_values s k e h, ← five_are (take k s), n)
 
     pub line_read :
         (a : List ℕ) → FilledFromLine digits largest (take k s) (replicate 5 0) a true
@@ -64,38 +64,38 @@ module _ (s : List ℕ) (k : ℕ) (e : k ≡ length (before lineEnd s)) where
           deadline = get_or a 4 0;
         })
         (k + 1)
-        ≡ rangeLine s
-    unfolding rangeLine rangedTaskOf
+        ≡ range_line s
+    unfolding range_line ranged_task_of
     line_read a n =
-        let line : Cut lineEnd s k = cut lineEnd s k e h in
-        let is : (i : ℕ) → i < 5 → get_or a i 0 ≡ decimal (field i (take k s)) = entry-is digits largest (take k s) (replicate 5 0) a n in
-        rw (first-is fiveValues s k e h, ← five-are (take k s), ← n.is, ← e, ← line.front)
+        let line : Cut line_end s k = cut line_end s k e h in
+        let is : (i : ℕ) → i < 5 → get_or a i 0 ≡ decimal (field i (take k s)) = entry_is digits largest (take k s) (replicate 5 0) a n in
+        rw (first_is_lem five_values s k e h, ← five_are (take k s), ← n.is, ← e, ← line.front)
         (rw (← is 0 (omega arith), ← is 1 (omega arith), ← is 2 (omega arith), ← is 3 (omega arith), ← is 4 (omega arith)))
 
 -- the text s begins with a value line of n bytes, whose task is k
 pub record LineRead (s : List ℕ) (k : RangedTask) (n : ℕ) : Type 0 where
-  pub is : firstIs fiveValues s ≡ true
-  pub task-is : rangedTaskOf (before lineEnd s) ≡ k
+  pub is : first_is five_values s ≡ true
+  pub task_is : ranged_task_of (before line_end s) ≡ k
   pub some_bytes : 0 < n
   pub within : n ≤ length s
-  pub rest : after lineEnd s ≡ from s n
+  pub rest : after line_end s ≡ from s n
 
-pub line-is : (s : List ℕ) (k : RangedTask) (n : ℕ) → rangeLine s ≡ Read k n → LineRead s k n
-unfolding rangeLine
-line-is s k n =
-    by_cond (λ r. r ≡ Read k n → LineRead s k n) (firstIs fiveValues s)
+pub line_is : (s : List ℕ) (k : RangedTask) (n : ℕ) → range_line s ≡ Read k n → LineRead s k n
+unfolding range_line
+line_is s k n =
+    by_cond (λ r. r ≡ Read k n → LineRead s k n) (first_is five_values s)
     (λ b e.
-    let h = here lineEnd s (is-ended fiveValues s b) in
-    let q : length (before lineEnd s) + 1 ≡ n = cc in
+    let h = here line_end s (is_ended five_values s b) in
+    let q : length (before line_end s) + 1 ≡ n = cc in
     record {
       is = b;
-      task-is = cc;
+      task_is = cc;
       some_bytes = omega arith;
       within = omega (arith, h.within);
-      rest = rw (← q) (sym h.rest ∙ sym (from-drop s (length (before lineEnd s) + 1)));
+      rest = rw (← q) (sym h.rest ∙ sym (from_drop s (length (before line_end s) + 1)));
     })
     (λ b e. clash cc)
 
-pub line-broken : (s : List ℕ) → rangeLine s ≡ Broken → firstIs fiveValues s ≡ false
-unfolding rangeLine
-line-broken s = by_cond (λ r. r ≡ Broken → firstIs fiveValues s ≡ false) (firstIs fiveValues s) (λ b e. clash cc) (λ b e. b)
+pub line_broken : (s : List ℕ) → range_line s ≡ Broken → first_is five_values s ≡ false
+unfolding range_line
+line_broken s = by_cond (λ r. r ≡ Broken → first_is five_values s ≡ false) (first_is five_values s) (λ b e. clash cc) (λ b e. b)

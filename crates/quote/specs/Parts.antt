@@ -1,10 +1,10 @@
 -- The contract of a private function of the reading. `reading` does not rest on it.
 use Rattle.std.specs.Prelude.{ℕ, ◌+◌, List, cond, length}
-use Rattle.text.specs.Lines.{lineEnd, before, firstIs}
+use Rattle.text.specs.Lines.{line_end, before, first_is}
 use Rattle.quote.specs.declared.reading.RangeLine.{RangeLine}
 use Rattle.quote.specs.declared.reading.RangeLine.TheVariants.{Read, Broken}
-use Rattle.quote.specs.Reading.{fiveValues, rangedTaskOf}
+use Rattle.quote.specs.Reading.{five_values, ranged_task_of}
 
 -- the ranged task of the value line that a text begins with, and how many bytes the line has with its byte 10
-unfoldable pub rangeLine : List ℕ → RangeLine
-rangeLine s = let l = before lineEnd s in cond (firstIs fiveValues s) (Read (rangedTaskOf l) (length l + 1)) Broken
+unfoldable pub range_line : List ℕ → RangeLine
+range_line s = let l = before line_end s in cond (first_is five_values s) (Read (ranged_task_of l) (length l + 1)) Broken

@@ -1,10 +1,10 @@
 // The lines of quotes. What puts a line answers how many bytes the array then holds.
 ghost use Rattle.std.specs.Prelude.{min, ◌++◌};
 ghost use Rattle.text.specs.Output.{Put};
-ghost use Rattle.tasks.specs.Limits.{maxCores};
-ghost use Rattle.lines.specs.Printed.{linesUpTo};
-ghost use Rattle.ranges.specs.Quote.{quoteValuesOf};
-ghost use Rattle.quote.specs.Printed.{header, answerWord, quoteLine};
+ghost use Rattle.tasks.specs.Limits.{max_cores};
+ghost use Rattle.lines.specs.Printed.{lines_up_to};
+ghost use Rattle.ranges.specs.Quote.{quote_values_of};
+ghost use Rattle.quote.specs.Printed.{header, answer_word, quote_line};
 
 use lines::last_cores;
 use ranges::table::RangedTable;
@@ -13,7 +13,7 @@ use text::output::{put, put_number};
 
 // The word of an answer and its byte 10. A refused quote says of no table that it is admitted; of ranges that were read none comes (proofs/PrintedTrue.antt).
 fn put_answer(output: &mut [u8], used: usize, quote: Quote) -> usize
-    ensures { Put output.old used (answerWord (quoteValuesOf quote)) output.new result }
+    ensures { Put output.old used (answer_word (quote_values_of quote)) output.new result }
 {
     match quote {
         Quote::All => put(output, used, b"ALL\n"),
@@ -28,7 +28,7 @@ fn put_answer(output: &mut [u8], used: usize, quote: Quote) -> usize
 
 // The line of a number of cores.
 fn put_line(output: &mut [u8], used: usize, table: RangedTable, cores: u32) -> usize
-    ensures { Put output.old used (quoteLine table cores) output.new result }
+    ensures { Put output.old used (quote_line table cores) output.new result }
 {
     let quote = judge_ranges(table, cores);
     let at = put_number(output, used, cores as u64);
@@ -38,7 +38,7 @@ fn put_line(output: &mut [u8], used: usize, table: RangedTable, cores: u32) -> u
 
 // The line of names and the lines of the numbers of cores.
 pub fn put_lines(output: &mut [u8], table: RangedTable) -> usize
-    ensures { Put output.old 0 (header ++ linesUpTo (quoteLine table) (min maxCores table.count)) output.new result }
+    ensures { Put output.old 0 (header ++ lines_up_to (quote_line table) (min max_cores table.count)) output.new result }
 {
     let last = last_cores(table.count);
     let mut used = put(output, 0, b"CORES ANSWER\n");

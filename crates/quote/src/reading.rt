@@ -1,9 +1,9 @@
 // Ranges from text: docs/HANDBOOK.md, "Quotes over ranges".
 ghost use Rattle.std.specs.Prelude.{◌<◌, ◌≡◌};
-ghost use Rattle.tasks.specs.Limits.{maxTasks};
-ghost use Rattle.ranges.specs.Ranges.{emptyRanges, withRangedTask};
-ghost use Rattle.quote.specs.Reading.{refused, rangeLines, reading};
-ghost use Rattle.quote.specs.Parts.{rangeLine};
+ghost use Rattle.tasks.specs.Limits.{max_tasks};
+ghost use Rattle.ranges.specs.Ranges.{empty_ranges, with_ranged_task};
+ghost use Rattle.quote.specs.Reading.{refused, range_lines, reading};
+ghost use Rattle.quote.specs.Parts.{range_line};
 
 use ranges::table::RangedTable;
 use ranges::task::{Range, RangedTask};
@@ -45,7 +45,7 @@ fn refused_reading(number: u32, place: u32) -> RangedReading
 
 // The task of the value line that a text begins with.
 fn range_line(text: &[u8]) -> RangeLine
-    ensures { result ≡ rangeLine text.now }
+    ensures { result ≡ range_line text.now }
 {
     let length = bytes::find(text, b'\n');
     if text.len() <= length {
@@ -73,8 +73,8 @@ fn range_line(text: &[u8]) -> RangeLine
 
 // The ranges with a task more.
 fn with_task(mut table: RangedTable, task: RangedTask) -> RangedTable
-    requires { table.count < maxTasks }
-    ensures { result ≡ withRangedTask table task }
+    requires { table.count < max_tasks }
+    ensures { result ≡ with_ranged_task table task }
 {
     let count = table.count;
     table.tasks[count] = task;
@@ -84,7 +84,7 @@ fn with_task(mut table: RangedTable, task: RangedTask) -> RangedTable
 
 // Value lines in turn: each line's reader gets the part of the text after the line before.
 fn range_lines(text: &[u8]) -> RangedReading
-    ensures { result ≡ rangeLines maxTasks emptyRanges text.now }
+    ensures { result ≡ range_lines max_tasks empty_ranges text.now }
 {
     let mut table = RangedTable::empty();
     let mut rest = text;

@@ -1,17 +1,17 @@
--- What a computed test looks through of ranges, in one name: a proof `unfolding computingRanges` computes ranges written out, their refusals and their quotes.
+-- What a computed test looks through of ranges, in one name: a proof `unfolding computing_ranges` computes ranges written out, their refusals and their quotes.
 use mathlib.Core.Bool.{Bool, true}
 use Rattle.laws.specs.Lists.{replaced}
-use Rattle.tasks.specs.Outcome.{firstRefusal}
-use Rattle.tasks.proofs.Computing.{computingTables}
-use Rattle.judge.proofs.Computing.{computingVerdicts}
-use Rattle.ranges.specs.Ranges.{zeroRangedTask, emptyRanges, withRangedTask, cornerTask, cornerTable}
-use Rattle.ranges.specs.Written.{ranged, fixed, rangesWith, rangesOf}
-use Rattle.ranges.specs.Check.{inOrder, cornersInRange, taskChecked, tasksChecked, coresChecked, rangesChecked}
-use Rattle.ranges.specs.Quote.{refusedQuote, quoteValuesOf, quotedAfter, quoted}
+use Rattle.tasks.specs.Outcome.{first_refusal}
+use Rattle.tasks.proofs.Computing.{computing_tables}
+use Rattle.judge.proofs.Computing.{computing_verdicts}
+use Rattle.ranges.specs.Ranges.{zero_ranged_task, empty_ranges, with_ranged_task, corner_task, corner_table}
+use Rattle.ranges.specs.Written.{ranged, fixed, ranges_with, ranges_of}
+use Rattle.ranges.specs.Check.{in_order, corners_in_range, task_checked, tasks_checked, cores_checked, ranges_checked}
+use Rattle.ranges.specs.Quote.{refused_quote, quote_values_of, quoted_after, quoted}
 
-unfoldable pub computingRanges : Bool
+unfoldable pub computing_ranges : Bool
 unfolding
-    computingTables computingVerdicts replaced firstRefusal
-    zeroRangedTask emptyRanges withRangedTask cornerTask cornerTable ranged fixed rangesWith rangesOf
-    inOrder cornersInRange taskChecked tasksChecked coresChecked rangesChecked refusedQuote quoteValuesOf quotedAfter quoted
-computingRanges = true
+    computing_tables computing_verdicts replaced first_refusal
+    zero_ranged_task empty_ranges with_ranged_task corner_task corner_table ranged fixed ranges_with ranges_of
+    in_order corners_in_range task_checked tasks_checked cores_checked ranges_checked refused_quote quote_values_of quoted_after quoted
+computing_ranges = true

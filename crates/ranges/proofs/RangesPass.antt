@@ -10,102 +10,102 @@ use lib.ListN.{get_or}
 use borrow.Author.Tests.{not-false, leb-true, ltb-false, eqb-false, le-leb, le-ltb, ne_eqb}
 use Rattle.laws.proofs.CaseSplits.{by_order, by_cond, clash}
 use Rattle.laws.proofs.Booleans.{and_left, and_right}
-use Rattle.tasks.specs.Limits.{maxTasks, maxCores}
+use Rattle.tasks.specs.Limits.{max_tasks, max_cores}
 use Rattle.tasks.specs.Task.{in_range}
-use Rattle.tasks.specs.Check.{coresInRange}
-use Rattle.tasks.specs.Outcome.{firstRefusal}
+use Rattle.tasks.specs.Check.{cores_in_range}
+use Rattle.tasks.specs.Outcome.{first_refusal}
 use Rattle.tasks.specs.declared.outcome.Outcome.TheVariants.{Done}
-use Rattle.tasks.proofs.OutcomeLaws.{past-test, both-done}
+use Rattle.tasks.proofs.OutcomeLaws.{past_test, both_done}
 use Rattle.ranges.specs.declared.corner.Corner.{Corner}
 use Rattle.ranges.specs.declared.corner.Corner.TheVariants.{Dearest, Cheapest}
 use Rattle.ranges.specs.declared.task.RangedTask.{RangedTask}
 use Rattle.ranges.specs.declared.table.RangedTable.{RangedTable}
-use Rattle.ranges.specs.Ranges.{zeroRangedTask, cornerTask}
-use Rattle.ranges.specs.Check.{inOrder, cornersInRange, taskChecked, tasksChecked, coresChecked, rangesChecked}
+use Rattle.ranges.specs.Ranges.{zero_ranged_task, corner_task}
+use Rattle.ranges.specs.Check.{in_order, corners_in_range, task_checked, tasks_checked, cores_checked, ranges_checked}
 
 -- no least is above its most, and at either corner the task is in range
 pub record TaskPasses (r : RangedTask) : Type 0 where
-  pub period-in-order : r.period.least ≤ r.period.most
-  pub budget-in-order : r.budget.least ≤ r.budget.most
-  pub corner-fits : (corner : Corner) → in_range (cornerTask corner r) ≡ true
+  pub period_in_order : r.period.least ≤ r.period.most
+  pub budget_in_order : r.budget.least ≤ r.budget.most
+  pub corner_fits : (corner : Corner) → in_range (corner_task corner r) ≡ true
 
 pub record Passes (r : RangedTable) (m : ℕ) : Type 0 where
-  pub count-some : 1 ≤ r.count
-  pub count_fits : r.count ≤ maxTasks
-  pub each-passes : (i : ℕ) → i < r.count → TaskPasses (get_or r.tasks i zeroRangedTask)
-  pub cores-some : 1 ≤ m
-  pub cores-fit : m ≤ maxCores
+  pub count_some : 1 ≤ r.count
+  pub count_fits : r.count ≤ max_tasks
+  pub each_passes : (i : ℕ) → i < r.count → TaskPasses (get_or r.tasks i zero_ranged_task)
+  pub cores_some : 1 ≤ m
+  pub cores_fit : m ≤ max_cores
 
-pub task-passes : (r : RangedTask) (place : ℕ) → taskChecked r place ≡ Done → TaskPasses r
-unfolding taskChecked inOrder cornersInRange
-task-passes r place =
-    past-test _ _ _ λ ordered.
-    past-test _ _ _ λ fits e.
-    let in_order = not-false _ ordered in
+pub task_passes : (r : RangedTask) (place : ℕ) → task_checked r place ≡ Done → TaskPasses r
+unfolding task_checked in_order corners_in_range
+task_passes r place =
+    past_test _ _ _ λ ordered.
+    past_test _ _ _ λ fits e.
+    let in_order_lem = not-false _ ordered in
     let both = not-false _ fits in
-    let dearest-fits = in_range (cornerTask Dearest r) in
-    let corner : (corner : Corner) → in_range (cornerTask corner r) ≡ true
+    let dearest-fits = in_range (corner_task Dearest r) in
+    let corner : (corner : Corner) → in_range (corner_task corner r) ≡ true
     = λ c. elim c [ Dearest ↦ and_left dearest-fits _ both | Cheapest ↦ and_right dearest-fits _ both ] in
     record {
-      period-in-order = leb-true _ _ (and_left (leb r.period.least r.period.most) _ in_order);
-      budget-in-order = leb-true _ _ (and_right (leb r.period.least r.period.most) _ in_order);
-      corner-fits = corner;
+      period_in_order = leb-true _ _ (and_left (leb r.period.least r.period.most) _ in_order_lem);
+      budget_in_order = leb-true _ _ (and_right (leb r.period.least r.period.most) _ in_order_lem);
+      corner_fits = corner;
     }
 
 -- each of the tasks that are tried passes
-tasks-pass : (tasks : List RangedTask) (n i : ℕ) → tasksChecked tasks i n ≡ Done → (j : ℕ) → i ≤ j → j < i + n → TaskPasses (get_or tasks j zeroRangedTask)
-unfolding tasksChecked
-tasks-pass tasks zero i e j l h = absurd (omega arith)
-tasks-pass tasks (suc n) i e j l h =
-    let (first, rest) = both-done (taskChecked (get_or tasks i zeroRangedTask) (i + 1)) (tasksChecked tasks (i + 1) n) e in
+tasks_pass : (tasks : List RangedTask) (n i : ℕ) → tasks_checked tasks i n ≡ Done → (j : ℕ) → i ≤ j → j < i + n → TaskPasses (get_or tasks j zero_ranged_task)
+unfolding tasks_checked
+tasks_pass tasks zero i e j l h = absurd (omega arith)
+tasks_pass tasks (suc n) i e j l h =
+    let (first, rest) = both_done (task_checked (get_or tasks i zero_ranged_task) (i + 1)) (tasks_checked tasks (i + 1) n) e in
     by_order (i + 1) j
-    (λ later. tasks-pass tasks n (i + 1) rest j later (omega arith))
-    (λ here. let same : j ≡ i = omega arith in rw same (task-passes (get_or tasks i zeroRangedTask) (i + 1) first))
+    (λ later. tasks_pass tasks n (i + 1) rest j later (omega arith))
+    (λ here. let same : j ≡ i = omega arith in rw same (task_passes (get_or tasks i zero_ranged_task) (i + 1) first))
 
-cores-pass : (m : ℕ) → coresChecked m ≡ Done → (1 ≤ m) × (m ≤ maxCores)
-unfolding coresChecked coresInRange
-cores-pass m =
-    by_cond (λ o. o ≡ Done → (1 ≤ m) × (m ≤ maxCores)) (leb 1 m && leb m maxCores)
+cores_pass : (m : ℕ) → cores_checked m ≡ Done → (1 ≤ m) × (m ≤ max_cores)
+unfolding cores_checked cores_in_range
+cores_pass m =
+    by_cond (λ o. o ≡ Done → (1 ≤ m) × (m ≤ max_cores)) (leb 1 m && leb m max_cores)
     (λ fit e. (leb-true _ _ (and_left (leb 1 m) _ fit), leb-true _ _ (and_right (leb 1 m) _ fit)))
     (λ out e. clash cc)
 
-pub passes : (r : RangedTable) (m : ℕ) → rangesChecked r m ≡ Done → Passes r m
-unfolding rangesChecked
+pub passes : (r : RangedTable) (m : ℕ) → ranges_checked r m ≡ Done → Passes r m
+unfolding ranges_checked
 passes r m =
-    past-test _ _ _ λ few.
-    past-test (eqb r.count 0) _ _ λ some e.
-    let (tasks, cores) = both-done (tasksChecked r.tasks 0 r.count) (coresChecked m) e in
+    past_test _ _ _ λ few.
+    past_test (eqb r.count 0) _ _ λ some e.
+    let (tasks, cores) = both_done (tasks_checked r.tasks 0 r.count) (cores_checked m) e in
     record {
-      count-some = let not-0 = eqb-false r.count 0 some in omega arith;
+      count_some = let not-0 = eqb-false r.count 0 some in omega arith;
       count_fits = ltb-false _ _ few;
-      each-passes = λ i h. tasks-pass r.tasks r.count 0 tasks i (omega arith) (omega arith);
-      cores-some = (cores-pass m cores).0;
-      cores-fit = (cores-pass m cores).1;
+      each_passes = λ i h. tasks_pass r.tasks r.count 0 tasks i (omega arith) (omega arith);
+      cores_some = (cores_pass m cores).0;
+      cores_fit = (cores_pass m cores).1;
     }
 
 -- and the other way round
-none-refused : (tasks : List RangedTask) (n i : ℕ) →
-    ((j : ℕ) → i ≤ j → j < i + n → taskChecked (get_or tasks j zeroRangedTask) (j + 1) ≡ Done) →
-    tasksChecked tasks i n ≡ Done
-unfolding tasksChecked firstRefusal
-none-refused tasks zero i each = refl
-none-refused tasks (suc n) i each = rw (each i (omega arith) (omega arith)) (none-refused tasks n (i + 1) (λ j l h. each j (omega arith) (omega arith)))
+none_refused : (tasks : List RangedTask) (n i : ℕ) →
+    ((j : ℕ) → i ≤ j → j < i + n → task_checked (get_or tasks j zero_ranged_task) (j + 1) ≡ Done) →
+    tasks_checked tasks i n ≡ Done
+unfolding tasks_checked first_refusal
+none_refused tasks zero i each = refl
+none_refused tasks (suc n) i each = rw (each i (omega arith) (omega arith)) (none_refused tasks n (i + 1) (λ j l h. each j (omega arith) (omega arith)))
 
 -- ranges of which no task is refused
 pub record TasksPass (r : RangedTable) : Type 0 where
-  pub count-some : 1 ≤ r.count
-  pub count_fits : r.count ≤ maxTasks
-  pub each-checked : (i : ℕ) → i < r.count → taskChecked (get_or r.tasks i zeroRangedTask) (i + 1) ≡ Done
+  pub count_some : 1 ≤ r.count
+  pub count_fits : r.count ≤ max_tasks
+  pub each_checked : (i : ℕ) → i < r.count → task_checked (get_or r.tasks i zero_ranged_task) (i + 1) ≡ Done
 
-pub passed : (r : RangedTable) (m : ℕ) → TasksPass r → 1 ≤ m → m ≤ maxCores → rangesChecked r m ≡ Done
-unfolding rangesChecked firstRefusal coresChecked coresInRange
+pub passed : (r : RangedTable) (m : ℕ) → TasksPass r → 1 ≤ m → m ≤ max_cores → ranges_checked r m ≡ Done
+unfolding ranges_checked first_refusal cores_checked cores_in_range
 passed r m fit some fits =
-    let in-table : (i : ℕ) → 0 ≤ i → i < 0 + r.count → taskChecked (get_or r.tasks i zeroRangedTask) (i + 1) ≡ Done
-    = λ i l h. fit.each-checked i (omega arith) in
+    let in_table_lem : (i : ℕ) → 0 ≤ i → i < 0 + r.count → task_checked (get_or r.tasks i zero_ranged_task) (i + 1) ≡ Done
+    = λ i l h. fit.each_checked i (omega arith) in
     rw (
-      le-ltb maxTasks r.count fit.count_fits,
-      ne_eqb r.count 0 (omega (arith, fit.count-some)),
-      none-refused r.tasks r.count 0 in-table,
+      le-ltb max_tasks r.count fit.count_fits,
+      ne_eqb r.count 0 (omega (arith, fit.count_some)),
+      none_refused r.tasks r.count 0 in_table_lem,
       le-leb 1 m some,
-      le-leb m maxCores fits,
+      le-leb m max_cores fits,
     )

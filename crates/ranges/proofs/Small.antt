@@ -1,17 +1,17 @@
--- The numbers by which a task is refused are small: `task-below`.
+-- The numbers by which a task is refused are small: `task_below`.
 use Prim.Native.Nat.{ℕ}
 use native.Mathlib.Omega.{arith}
 use mathlib.Core.Bool.{not, ◌&&◌}
 use Rattle.laws.proofs.CaseSplits.{by_cond}
-use Rattle.tasks.specs.Refusals.{leastAboveMost, taskOutOfRange}
-use Rattle.tasks.proofs.Small.{Below, below-done, below-refused}
+use Rattle.tasks.specs.Refusals.{least_above_most, task_out_of_range}
+use Rattle.tasks.proofs.Small.{Below, below_done, below_refused}
 use Rattle.ranges.specs.declared.task.RangedTask.{RangedTask}
-use Rattle.ranges.specs.Check.{inOrder, cornersInRange, taskChecked}
+use Rattle.ranges.specs.Check.{in_order, corners_in_range, task_checked}
 
-pub task-below : (r : RangedTask) (place : ℕ) → Below 16 (taskChecked r place)
-unfolding taskChecked
-task-below r place =
-    by_cond (Below 16) (not (inOrder r.period && inOrder r.budget))
-    (λ e. below-refused 16 leastAboveMost place (omega arith))
+pub task_below : (r : RangedTask) (place : ℕ) → Below 16 (task_checked r place)
+unfolding task_checked
+task_below r place =
+    by_cond (Below 16) (not (in_order r.period && in_order r.budget))
+    (λ e. below_refused 16 least_above_most place (omega arith))
     (λ e.
-    by_cond (Below 16) (not (cornersInRange r)) (λ f. below-refused 16 taskOutOfRange place (omega arith)) (λ f. below-done 16))
+    by_cond (Below 16) (not (corners_in_range r)) (λ f. below_refused 16 task_out_of_range place (omega arith)) (λ f. below_done 16))

@@ -7,13 +7,13 @@ use Rattle.judge.specs.Judge.{judged}
 use Rattle.ranges.specs.declared.table.RangedTable.{RangedTable}
 use Rattle.ranges.specs.declared.Quote.{Quote}
 use Rattle.ranges.specs.declared.Quote.TheVariants.{All, Some, None, Refused}
-use Rattle.ranges.specs.Ranges.{zeroRangedTask, Within}
-use Rattle.ranges.specs.Check.{rangesChecked}
-use Rattle.ranges.specs.Quote.{quoteValuesOf, quoted}
+use Rattle.ranges.specs.Ranges.{zero_ranged_task, Within}
+use Rattle.ranges.specs.Check.{ranges_checked}
+use Rattle.ranges.specs.Quote.{quote_values_of, quoted}
 
 -- the table t is judged on m cores, not refused, and this is the window test's verdict
 pub record HasVerdict (t : Table) (m : ℕ) (admits : Bool) : Type 0 where
-  pub is-judged : (judged t m).outcome ≡ Out.Done
+  pub is_judged : (judged t m).outcome ≡ Out.Done
   pub verdict : (judged t m).admits ≡ admits
 
 -- a table within the ranges has this verdict
@@ -25,11 +25,11 @@ pub record AtLeastOne (r : RangedTable) (m : ℕ) (admits : Bool) : Type 0 where
 -- every table within has it, and there is one
 pub record Every (r : RangedTable) (m : ℕ) (admits : Bool) : Type 0 where
   pub each : (t : Table) → Within r t → HasVerdict t m admits
-  pub there-is : AtLeastOne r m admits
+  pub there_is : AtLeastOne r m admits
 
 -- "for some and not others", where each is judged
 pub record SomeNotOthers (r : RangedTable) (m : ℕ) : Type 0 where
-  pub each-judged : (t : Table) → Within r t → (judged t m).outcome ≡ Out.Done
+  pub each_judged : (t : Table) → Within r t → (judged t m).outcome ≡ Out.Done
   pub some : AtLeastOne r m true
   pub others : AtLeastOne r m false
 
@@ -38,17 +38,17 @@ unfoldable pub Says : Quote → RangedTable → (m : ℕ) → Type 0
 Says All r m = Every r m true
 Says Some r m = SomeNotOthers r m
 Says None r m = Every r m false
-Says (Refused number place) r m = rangesChecked r m ≡ Out.Refused number place
+Says (Refused number place) r m = ranges_checked r m ≡ Out.Refused number place
 
 -- "Each answer has to be true": whichever ranges and cores, what is answered by the two corners is so
 unfoldable pub QuotePromise : Type 0
-QuotePromise = (answer : Quote) (r : RangedTable) (m : ℕ) → quoteValuesOf answer ≡ quoted r m → Says answer r m
+QuotePromise = (answer : Quote) (r : RangedTable) (m : ℕ) → quote_values_of answer ≡ quoted r m → Says answer r m
 
 -- each least is its most
 pub record OneValueEach (r : RangedTable) : Type 0 where
-  pub one-period : (i : ℕ) → i < r.count → let range = (get_or r.tasks i zeroRangedTask).period in range.least ≡ range.most
-  pub one-budget : (i : ℕ) → i < r.count → let range = (get_or r.tasks i zeroRangedTask).budget in range.least ≡ range.most
+  pub one_period : (i : ℕ) → i < r.count → let range = (get_or r.tasks i zero_ranged_task).period in range.least ≡ range.most
+  pub one_budget : (i : ℕ) → i < r.count → let range = (get_or r.tasks i zero_ranged_task).budget in range.least ≡ range.most
 
 -- of such ranges it is never "for some and not others"
 unfoldable pub OneValueNeverSome : Type 0
-OneValueNeverSome = (r : RangedTable) (m : ℕ) → OneValueEach r → quoteValuesOf Some ≡ quoted r m → ⊥
+OneValueNeverSome = (r : RangedTable) (m : ℕ) → OneValueEach r → quote_values_of Some ≡ quoted r m → ⊥

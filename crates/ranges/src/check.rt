@@ -1,7 +1,7 @@
 // Whether ranges and a number of cores can be quoted.
 ghost use Rattle.std.specs.Prelude.{◌≤◌, ◌≡◌};
-ghost use Rattle.tasks.specs.Limits.{maxTasks};
-ghost use Rattle.ranges.specs.Check.{tasksChecked, rangesChecked};
+ghost use Rattle.tasks.specs.Limits.{max_tasks};
+ghost use Rattle.ranges.specs.Check.{tasks_checked, ranges_checked};
 
 use crate::table::RangedTable;
 use crate::task::RangedTask;
@@ -12,8 +12,8 @@ use tasks::refusals::{CORES_OUT_OF_RANGE, NO_TASK};
 
 // Done, or the refusal of the first task that is refused.
 fn check_tasks(tasks: [RangedTask; MAX_TASKS], count: usize) -> Outcome
-    requires { count ≤ maxTasks }
-    ensures { result ≡ tasksChecked tasks 0 count }
+    requires { count ≤ max_tasks }
+    ensures { result ≡ tasks_checked tasks 0 count }
 {
     let mut i: usize = 0;
     while i < count {
@@ -33,7 +33,7 @@ fn check_tasks(tasks: [RangedTask; MAX_TASKS], count: usize) -> Outcome
 
 // Done, or the refusal of these ranges or of this number of cores.
 pub fn check_ranges(table: RangedTable, cores: u32) -> Outcome
-    ensures { result ≡ rangesChecked table cores }
+    ensures { result ≡ ranges_checked table cores }
 {
     let count = table.count;
     if MAX_TASKS < count {

@@ -11,7 +11,7 @@ pub mod table;
 pub mod task;
 
 ghost use Rattle.std.specs.Prelude.{◌≡◌};
-ghost use Rattle.ranges.specs.Quote.{quoteValuesOf, quoted};
+ghost use Rattle.ranges.specs.Quote.{quote_values_of, quoted};
 ghost use Rattle.ranges.specs.Promise.{Says};
 
 // For which tables within the ranges the window test admits the table, or the refusal's number and place.
@@ -25,7 +25,7 @@ pub enum Quote {
 
 // The quote of ranges and a number of cores. It is true of every table within the ranges.
 pub fn judge_ranges(table: RangedTable, cores: u32) -> Quote
-    ensures result_value { quoteValuesOf result ≡ quoted table cores }
+    ensures result_value { quote_values_of result ≡ quoted table cores }
     ensures says { Says result table cores }
 {
     let outcome = check_ranges(table, cores);

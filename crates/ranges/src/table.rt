@@ -1,6 +1,6 @@
 // A table of tasks within ranges.
 ghost use Rattle.std.specs.Prelude.{◌≡◌};
-ghost use Rattle.ranges.specs.Ranges.{emptyRanges, cornerTable};
+ghost use Rattle.ranges.specs.Ranges.{empty_ranges, corner_table};
 
 use crate::corner::Corner;
 use crate::task::{Range, RangedTask};
@@ -17,7 +17,7 @@ pub struct RangedTable {
 impl RangedTable {
     // The table of zero tasks with all its numbers 0.
     pub fn empty() -> Self
-        ensures { result ≡ emptyRanges }
+        ensures { result ≡ empty_ranges }
     {
         let none = Range { least: 0, most: 0 };
         let zero = RangedTask {
@@ -33,7 +33,7 @@ impl RangedTable {
 
     // The table at a corner of the ranges, its entries past the count too.
     pub fn at(self, corner: Corner) -> Table
-        ensures { result ≡ cornerTable corner self }
+        ensures { result ≡ corner_table corner self }
     {
         let mut table = Table::empty();
         table.count = self.count;

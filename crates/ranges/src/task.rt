@@ -1,7 +1,7 @@
 // A task whose period and budget are known as a least and a most.
 ghost use Rattle.std.specs.Prelude.{◌≡◌};
-ghost use Rattle.ranges.specs.Ranges.{cornerTask};
-ghost use Rattle.ranges.specs.Check.{inOrder, cornersInRange, taskChecked};
+ghost use Rattle.ranges.specs.Ranges.{corner_task};
+ghost use Rattle.ranges.specs.Check.{in_order, corners_in_range, task_checked};
 
 use crate::corner::Corner;
 use tasks::outcome::Outcome;
@@ -26,7 +26,7 @@ pub struct RangedTask {
 impl Range {
     // Whether the least is not above the most: what number 16 refuses otherwise.
     pub fn in_order(self) -> bool
-        ensures { result ≡ inOrder self }
+        ensures { result ≡ in_order self }
     {
         self.least <= self.most
     }
@@ -35,7 +35,7 @@ impl Range {
 impl RangedTask {
     // The task at a corner of the ranges.
     pub fn at(self, corner: Corner) -> Task
-        ensures { result ≡ cornerTask corner self }
+        ensures { result ≡ corner_task corner self }
     {
         match corner {
             Corner::Dearest => Task {
@@ -53,7 +53,7 @@ impl RangedTask {
 
     // Whether the task at both corners is in range: what number 5 refuses otherwise.
     fn corners_in_range(self) -> bool
-        ensures { result ≡ cornersInRange self }
+        ensures { result ≡ corners_in_range self }
     {
         let dearest = self.at(Corner::Dearest);
         if !dearest.in_range() {
@@ -65,7 +65,7 @@ impl RangedTask {
 
     // Done, or the refusal of this task with its place: number 16, and just after it number 5.
     pub fn check(self, place: u32) -> Outcome
-        ensures { result ≡ taskChecked self place }
+        ensures { result ≡ task_checked self place }
     {
         let period = self.period;
         let budget = self.budget;

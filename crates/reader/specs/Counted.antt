@@ -13,10 +13,10 @@ pub record CountedValues : Type 0 where
 
 -- "If an answer is an enum, a definition gives this paper's number and values for each of the enum's cases."; "A refused reading hands back a table
 -- of zero tasks"
-unfoldable pub countedValuesOf : Counted → CountedValues
-countedValuesOf (Read count) = record { outcome = Out.Done; count = count }
-countedValuesOf (Refused number place) = record { outcome = Out.Refused number place; count = 0 }
+unfoldable pub counted_values_of : Counted → CountedValues
+counted_values_of (Read count) = record { outcome = Out.Done; count = count }
+counted_values_of (Refused number place) = record { outcome = Out.Refused number place; count = 0 }
 
 -- those of a reading
-unfoldable pub countedIn : Reading → CountedValues
-countedIn r = record { outcome = r.outcome; count = r.table.count }
+unfoldable pub counted_in : Reading → CountedValues
+counted_in r = record { outcome = r.outcome; count = r.table.count }

@@ -1,46 +1,46 @@
 -- The names line: document 01, "The table as text".
 use Rattle.std.specs.Prelude.{ℕ, List, [], ◌∷◌, Bool, cond, ◌&&◌, eqb, ltb}
-use Rattle.text.specs.Lines.{firstIs, field, fieldCount}
-use Rattle.text.specs.Words.{sameBytes}
+use Rattle.text.specs.Lines.{first_is, field, field_count}
+use Rattle.text.specs.Words.{same_bytes}
 use Rattle.reader.specs.declared.names.Columns.{Columns}
 
 -- the bytes of "PERIOD": "First a line with the names PERIOD, BUDGET and DEADLINE in any order"
-abbrev pub periodName : List ℕ
-periodName = 80 ∷ 69 ∷ 82 ∷ 73 ∷ 79 ∷ 68 ∷ []
+abbrev pub period_name : List ℕ
+period_name = 80 ∷ 69 ∷ 82 ∷ 73 ∷ 79 ∷ 68 ∷ []
 
 -- the bytes of "BUDGET"
-abbrev pub budgetName : List ℕ
-budgetName = 66 ∷ 85 ∷ 68 ∷ 71 ∷ 69 ∷ 84 ∷ []
+abbrev pub budget_name : List ℕ
+budget_name = 66 ∷ 85 ∷ 68 ∷ 71 ∷ 69 ∷ 84 ∷ []
 
 -- the bytes of "DEADLINE"
-abbrev pub deadlineName : List ℕ
-deadlineName = 68 ∷ 69 ∷ 65 ∷ 68 ∷ 76 ∷ 73 ∷ 78 ∷ 69 ∷ []
+abbrev pub deadline_name : List ℕ
+deadline_name = 68 ∷ 69 ∷ 65 ∷ 68 ∷ 76 ∷ 73 ∷ 78 ∷ 69 ∷ []
 
 -- which of three fields, from 0, is the name; 3 where none is
-unfoldable pub columnIn : List ℕ → List ℕ → List ℕ → List ℕ → ℕ
-columnIn name first second third = cond (sameBytes first name) 0 (cond (sameBytes second name) 1 (cond (sameBytes third name) 2 3))
+unfoldable pub column_in : List ℕ → List ℕ → List ℕ → List ℕ → ℕ
+column_in name first second third = cond (same_bytes first name) 0 (cond (same_bytes second name) 1 (cond (same_bytes third name) 2 3))
 
 -- which of three fields is each name
-unfoldable pub columnsIn : List ℕ → List ℕ → List ℕ → Columns
-columnsIn first second third =
+unfoldable pub columns_in : List ℕ → List ℕ → List ℕ → Columns
+columns_in first second third =
     record {
-      period = columnIn periodName first second third;
-      budget = columnIn budgetName first second third;
-      deadline = columnIn deadlineName first second third;
+      period = column_in period_name first second third;
+      budget = column_in budget_name first second third;
+      deadline = column_in deadline_name first second third;
     }
 
 -- whether each name is one of the three fields
-unfoldable pub eachNamed : Columns → Bool
-eachNamed c = ltb c.period 3 && ltb c.budget 3 && ltb c.deadline 3
+unfoldable pub each_named : Columns → Bool
+each_named c = ltb c.period 3 && ltb c.budget 3 && ltb c.deadline 3
 
 -- the columns of a names line
-unfoldable pub columnsOf : List ℕ → Columns
-columnsOf l = columnsIn (field 0 l) (field 1 l) (field 2 l)
+unfoldable pub columns_of : List ℕ → Columns
+columns_of l = columns_in (field 0 l) (field 1 l) (field 2 l)
 
 -- whether a line has three fields, and each name is one of them: so "the three names once each"
-unfoldable pub threeNames : List ℕ → Bool
-threeNames l = eqb (fieldCount l) 3 && eachNamed (columnsOf l)
+unfoldable pub three_names : List ℕ → Bool
+three_names l = eqb (field_count l) 3 && each_named (columns_of l)
 
 -- whether a text begins with a names line, which is ended: else "2. The names line is missing, is not ended, or is not the three names once each."
-unfoldable pub beginsWithNames : List ℕ → Bool
-beginsWithNames s = firstIs threeNames s
+unfoldable pub begins_with_names : List ℕ → Bool
+begins_with_names s = first_is three_names s

@@ -10,7 +10,7 @@ pub mod numbers;
 mod values;
 
 ghost use Rattle.std.specs.Prelude.{◌≡◌};
-ghost use Rattle.tasks.specs.Numbers.{tableFrom};
+ghost use Rattle.tasks.specs.Numbers.{table_from};
 ghost use Rattle.reader.specs.Reading.{reading, refused};
 
 // What reading a text gives: the table and Done, or a table of zeros and the refusal.
@@ -38,7 +38,7 @@ fn table_from<'a>(
     budgets: &'a PerTask,
     deadlines: &'a PerTask,
 ) -> Table
-    ensures { result ≡ tableFrom periods.now budgets.now deadlines.now count }
+    ensures { result ≡ table_from periods.now budgets.now deadlines.now count }
 {
     let mut table = Table::empty();
     table.count = count;

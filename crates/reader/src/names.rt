@@ -1,7 +1,7 @@
 // The names line: which column has the periods, the budgets and the deadlines.
 ghost use Rattle.std.specs.Prelude.{◌≡◌};
-ghost use Rattle.reader.specs.Names.{columnIn, columnsIn, eachNamed};
-ghost use Rattle.reader.specs.Parts.{namesLine};
+ghost use Rattle.reader.specs.Names.{column_in, columns_in, each_named};
+ghost use Rattle.reader.specs.Parts.{names_line};
 
 use text::bytes;
 
@@ -19,7 +19,7 @@ pub struct Columns {
 impl Columns {
     // Whether each name is one of the three fields.
     fn complete(self) -> bool
-        ensures { result ≡ eachNamed self }
+        ensures { result ≡ each_named self }
     {
         if NO_COLUMN <= self.period {
             return false;
@@ -40,7 +40,7 @@ pub enum NamesLine {
 
 // Which of three fields, from 0, is the name.
 fn column_in(name: &[u8], first: &[u8], second: &[u8], third: &[u8]) -> usize
-    ensures { result ≡ columnIn name.now first.now second.now third.now }
+    ensures { result ≡ column_in name.now first.now second.now third.now }
 {
     if bytes::same(first, name) {
         return 0;
@@ -56,7 +56,7 @@ fn column_in(name: &[u8], first: &[u8], second: &[u8], third: &[u8]) -> usize
 
 // Which of three fields is each name.
 fn columns_in(first: &[u8], second: &[u8], third: &[u8]) -> Columns
-    ensures { result ≡ columnsIn first.now second.now third.now }
+    ensures { result ≡ columns_in first.now second.now third.now }
 {
     let period = column_in(b"PERIOD", first, second, third);
     let budget = column_in(b"BUDGET", first, second, third);
@@ -71,7 +71,7 @@ fn columns_in(first: &[u8], second: &[u8], third: &[u8]) -> Columns
 // The names line that a text begins with. Its fields are cut out of the text, two up to a space and the last up to the byte 10: one that goes past
 // the end of the line has a byte 10 in it, and is no name.
 pub fn names_line(text: &[u8]) -> NamesLine
-    ensures { result ≡ namesLine text.now }
+    ensures { result ≡ names_line text.now }
 {
     let first = bytes::field_up_to(text, b' ');
     if text.len() <= first.len() {

@@ -1,12 +1,12 @@
 // A table's numbers from text, into three arrays that are lent: document 01, "The table as text".
 ghost use Rattle.std.specs.Prelude.{◌≡◌, true, length};
-ghost use Rattle.tasks.specs.Limits.{maxTasks};
-ghost use Rattle.tasks.specs.Table.{emptyTable};
-ghost use Rattle.tasks.specs.Numbers.{periodsOf, budgetsOf, deadlinesOf, tasksFrom};
-ghost use Rattle.reader.specs.Names.{eachNamed};
-ghost use Rattle.reader.specs.Reading.{reading, valueLines};
-ghost use Rattle.reader.specs.Parts.{readingFrom};
-ghost use Rattle.reader.specs.Counted.{countedValuesOf, countedIn};
+ghost use Rattle.tasks.specs.Limits.{max_tasks};
+ghost use Rattle.tasks.specs.Table.{empty_table};
+ghost use Rattle.tasks.specs.Numbers.{periods_of, budgets_of, deadlines_of, tasks_from};
+ghost use Rattle.reader.specs.Names.{each_named};
+ghost use Rattle.reader.specs.Reading.{reading, value_lines};
+ghost use Rattle.reader.specs.Parts.{reading_from};
+ghost use Rattle.reader.specs.Counted.{counted_values_of, counted_in};
 
 use crate::names::{Columns, NamesLine};
 use crate::{names, values};
@@ -32,8 +32,8 @@ fn refusal(number: u32, place: u32) -> Counted
 
 // Makes all numbers 0, as those of the empty table are.
 fn clear(periods: &mut PerTask, budgets: &mut PerTask, deadlines: &mut PerTask)
-    ensures { let none = emptyTable.tasks in
-        (periods.new ≡ periodsOf none) × (budgets.new ≡ budgetsOf none) × (deadlines.new ≡ deadlinesOf none) }
+    ensures { let none = empty_table.tasks in
+        (periods.new ≡ periods_of none) × (budgets.new ≡ budgets_of none) × (deadlines.new ≡ deadlines_of none) }
 {
     *periods = [0; MAX_TASKS];
     *budgets = [0; MAX_TASKS];
@@ -48,12 +48,12 @@ fn value_lines(
     budgets: &mut PerTask,
     deadlines: &mut PerTask,
 ) -> Counted
-    requires columns_value { eachNamed columns ≡ true }
-    requires fact { let none = emptyTable.tasks in
-        (periods.old ≡ periodsOf none) × (budgets.old ≡ budgetsOf none) × (deadlines.old ≡ deadlinesOf none) }
-    ensures deadlines_after { readingFrom result (tasksFrom periods.new budgets.new deadlines.new)
-        ≡ valueLines columns maxTasks emptyTable text.now }
-    ensures periods_len { (length periods.new ≡ maxTasks) × (length budgets.new ≡ maxTasks) × (length deadlines.new ≡ maxTasks) }
+    requires columns_value { each_named columns ≡ true }
+    requires fact { let none = empty_table.tasks in
+        (periods.old ≡ periods_of none) × (budgets.old ≡ budgets_of none) × (deadlines.old ≡ deadlines_of none) }
+    ensures deadlines_after { reading_from result (tasks_from periods.new budgets.new deadlines.new)
+        ≡ value_lines columns max_tasks empty_table text.now }
+    ensures periods_len { (length periods.new ≡ max_tasks) × (length budgets.new ≡ max_tasks) × (length deadlines.new ≡ max_tasks) }
 {
     let mut line = [0u32; 3];
     let mut count: usize = 0;
@@ -90,10 +90,10 @@ pub(crate) fn fill(
     budgets: &mut PerTask,
     deadlines: &mut PerTask,
 ) -> Counted
-    requires { let none = emptyTable.tasks in
-        (periods.old ≡ periodsOf none) × (budgets.old ≡ budgetsOf none) × (deadlines.old ≡ deadlinesOf none) }
-    ensures deadlines_after { readingFrom result (tasksFrom periods.new budgets.new deadlines.new) ≡ reading text.now }
-    ensures periods_len { (length periods.new ≡ maxTasks) × (length budgets.new ≡ maxTasks) × (length deadlines.new ≡ maxTasks) }
+    requires { let none = empty_table.tasks in
+        (periods.old ≡ periods_of none) × (budgets.old ≡ budgets_of none) × (deadlines.old ≡ deadlines_of none) }
+    ensures deadlines_after { reading_from result (tasks_from periods.new budgets.new deadlines.new) ≡ reading text.now }
+    ensures periods_len { (length periods.new ≡ max_tasks) × (length budgets.new ≡ max_tasks) × (length deadlines.new ≡ max_tasks) }
 {
     if MAX_TEXT_LENGTH < text.len() {
         return refusal(TEXT_TOO_LONG, 0);
@@ -111,10 +111,10 @@ pub fn read_numbers(
     budgets: &mut PerTask,
     deadlines: &mut PerTask,
 ) -> Counted
-    ensures result_value { countedValuesOf result ≡ countedIn (reading text.now) }
-    ensures periods_after { periods.new ≡ periodsOf (reading text.now).table.tasks }
-    ensures budgets_after { budgets.new ≡ budgetsOf (reading text.now).table.tasks }
-    ensures deadlines_after { deadlines.new ≡ deadlinesOf (reading text.now).table.tasks }
+    ensures result_value { counted_values_of result ≡ counted_in (reading text.now) }
+    ensures periods_after { periods.new ≡ periods_of (reading text.now).table.tasks }
+    ensures budgets_after { budgets.new ≡ budgets_of (reading text.now).table.tasks }
+    ensures deadlines_after { deadlines.new ≡ deadlines_of (reading text.now).table.tasks }
 {
     clear(periods, budgets, deadlines);
     let counted = fill(text, periods, budgets, deadlines);

@@ -1,10 +1,10 @@
 // Value lines: three values, and the task that they make.
 ghost use Rattle.std.specs.Prelude.{◌+◌, ◌<◌, ◌≡◌, true, cond, ◌&&◌, [], ◌∷◌, length, get_or, set};
-ghost use Rattle.text.specs.Lines.{lineEnd, has, before, field};
+ghost use Rattle.text.specs.Lines.{line_end, has, before, field};
 ghost use Rattle.text.specs.Number.{decimal};
 ghost use Rattle.reader.specs.Value.{is_value};
-ghost use Rattle.reader.specs.Names.{eachNamed};
-ghost use Rattle.reader.specs.Reading.{beginsWithValues};
+ghost use Rattle.reader.specs.Names.{each_named};
+ghost use Rattle.reader.specs.Reading.{begins_with_values};
 
 use crate::names::Columns;
 use tasks::task::Task;
@@ -55,9 +55,9 @@ fn value_up_to(text: &[u8], end: u8, values: &mut [u32; 3], place: usize) -> usi
 // Puts the values of the value line that a text begins with: how many bytes the line has with its byte 10. Where the text begins with none, 0.
 pub(crate) fn value_line(text: &[u8], values: &mut [u32; 3]) -> usize
     requires { length values.old ≡ 3 }
-    ensures result_value { let s = text.now in result ≡ cond (beginsWithValues s) (length (before lineEnd s) + 1) 0 }
-    ensures fact { let s = text.now in let line = before lineEnd s in
-        (beginsWithValues s ≡ true → values.new ≡ decimal (field 0 line) ∷ decimal (field 1 line) ∷ decimal (field 2 line) ∷ []) }
+    ensures result_value { let s = text.now in result ≡ cond (begins_with_values s) (length (before line_end s) + 1) 0 }
+    ensures fact { let s = text.now in let line = before line_end s in
+        (begins_with_values s ≡ true → values.new ≡ decimal (field 0 line) ∷ decimal (field 1 line) ∷ decimal (field 2 line) ∷ []) }
 {
     let first = value_up_to(text, b' ', values, 0);
     if first == 0 {
@@ -78,7 +78,7 @@ pub(crate) fn value_line(text: &[u8], values: &mut [u32; 3]) -> usize
 
 // The task whose numbers stand in the columns of a value line.
 pub(crate) fn task_of(values: &[u32; 3], columns: Columns) -> Task
-    requires { eachNamed columns ≡ true }
+    requires { each_named columns ≡ true }
     ensures { let vs = values.now in
         result ≡ record { period = get_or vs columns.period 0; budget = get_or vs columns.budget 0; deadline = get_or vs columns.deadline 0 } }
 {

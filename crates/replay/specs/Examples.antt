@@ -18,8 +18,8 @@ use Rattle.std.specs.Prelude.{ℕ, List, [], ◌∷◌}
 --     SLOT 0
 --     RELEASE 1
 --     SLOT 1
-unfoldable pub exampleScript : List ℕ
-exampleScript =
+unfoldable pub example_script : List ℕ
+example_script =
     67 ∷ 79 ∷ 82 ∷ 69 ∷ 83 ∷ 32 ∷ 49 ∷ 10
     ∷ 80 ∷ 69 ∷ 82 ∷ 73 ∷ 79 ∷ 68 ∷ 32 ∷ 66 ∷ 85 ∷ 68 ∷ 71 ∷ 69 ∷ 84 ∷ 32 ∷ 68 ∷ 69 ∷ 65 ∷ 68 ∷ 76 ∷ 73 ∷ 78 ∷ 69 ∷ 10
     ∷ 52 ∷ 32 ∷ 51 ∷ 32 ∷ 52 ∷ 10
@@ -47,8 +47,8 @@ exampleScript =
 --     REFUSED 17
 --     REFUSED 14
 --     BAD LINE 14
-unfoldable pub exampleOutput : List ℕ
-exampleOutput =
+unfoldable pub example_output : List ℕ
+example_output =
     82 ∷ 69 ∷ 70 ∷ 85 ∷ 83 ∷ 69 ∷ 68 ∷ 32 ∷ 49 ∷ 53 ∷ 10
     ∷ 68 ∷ 79 ∷ 78 ∷ 69 ∷ 10
     ∷ 49 ∷ 32 ∷ 48 ∷ 32 ∷ 48 ∷ 32 ∷ 49 ∷ 32 ∷ 49 ∷ 10

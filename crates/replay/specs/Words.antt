@@ -2,5 +2,5 @@
 use Rattle.std.specs.Prelude.{ℕ, List, [], ◌∷◌}
 
 -- "CALLS", a line of its own
-abbrev pub callsWord : List ℕ
-callsWord = 67 ∷ 65 ∷ 76 ∷ 76 ∷ 83 ∷ []
+abbrev pub calls_word : List ℕ
+calls_word = 67 ∷ 65 ∷ 76 ∷ 76 ∷ 83 ∷ []

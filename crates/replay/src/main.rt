@@ -2,8 +2,8 @@
 ghost use Rattle.std.specs.Prelude.{◌+◌, ◌*◌, ◌≤◌, length};
 ghost use Rattle.text.specs.Lines.{lines, unended};
 ghost use Rattle.text.specs.Output.{Holds};
-ghost use Rattle.script.specs.Output.{PutWithin, refusalRoom};
-ghost use Rattle.replay.specs.Script.{maxScriptLength, answerLines, printedFor, printed, callRoom, room};
+ghost use Rattle.script.specs.Output.{PutWithin, refusal_room};
+ghost use Rattle.replay.specs.Script.{max_script_length, answer_lines, printed_for, printed, call_room, room};
 
 use machine::machine::Machine;
 use script::calls::{CallLine, MAX_DIGITS, MAX_NUMBER, call_line};
@@ -21,7 +21,7 @@ const MAX_SCRIPT_LENGTH: usize = 65_536;
 // One more byte than a script may have, so that a longer one is seen to be too long.
 const INPUT_ROOM: usize = MAX_SCRIPT_LENGTH + 1;
 
-// Room of the output for each byte of the calls, in contracts `callRoom`.
+// Room of the output for each byte of the calls, in contracts `call_room`.
 const CALL_ROOM: usize = 16;
 
 // Room for what is printed, in contracts `room`.
@@ -29,8 +29,8 @@ const OUTPUT_ROOM: usize = CALL_ROOM * MAX_SCRIPT_LENGTH + REFUSAL_ROOM;
 
 // Puts the answers to the calls of a text, the first of which is on the line `first` of the script.
 fn play(text: &[u8], mut machine: Machine, first: usize, output: &mut [u8]) -> usize
-    requires { first ≤ maxScriptLength + 3 }
-    ensures { PutWithin (callRoom * length text.now + refusalRoom) output.old 0 (answerLines machine first (lines text.now) (unended text.now)) output.new result }
+    requires { first ≤ max_script_length + 3 }
+    ensures { PutWithin (call_room * length text.now + refusal_room) output.old 0 (answer_lines machine first (lines text.now) (unended text.now)) output.new result }
 {
     let mut rest = text;
     let mut line = first;
@@ -54,8 +54,8 @@ fn play(text: &[u8], mut machine: Machine, first: usize, output: &mut [u8]) -> u
 
 // Puts the answers to the calls of a text, or the refusal of the table's text or of the cores.
 fn run(text: &[u8], cores: u32, calls: &[u8], first: usize, output: &mut [u8]) -> usize
-    requires { first ≤ maxScriptLength + 3 }
-    ensures { PutWithin (callRoom * length calls.now + refusalRoom) output.old 0 (printedFor text.now cores first calls.now) output.new result }
+    requires { first ≤ max_script_length + 3 }
+    ensures { PutWithin (call_room * length calls.now + refusal_room) output.old 0 (printed_for text.now cores first calls.now) output.new result }
 {
     let reading = reader::read(text);
     let outcome = reading.outcome;

@@ -3,9 +3,9 @@
 use Rattle.std.specs.Prelude.{ℕ}
 
 -- "1 to 10 digits"
-abbrev pub maxDigits : ℕ
-maxDigits = 10
+abbrev pub max_digits : ℕ
+max_digits = 10
 
 -- "at most 4,294,967,295"
-abbrev pub maxNumber : ℕ
-maxNumber = 4_294_967_295
+abbrev pub max_number : ℕ
+max_number = 4_294_967_295

@@ -1,8 +1,8 @@
 -- What is printed for a call (docs/HANDBOOK.md, "Replaying calls"): "Output, one line per call, each ended by byte 10".
 use Rattle.std.specs.Prelude.{ℕ, zero, suc, ◌+◌, ◌*◌, ◌≤◌, Bool, false, cond, List, [], ◌∷◌, ◌++◌, length, get_or}
-use Rattle.text.specs.Lines.{lineEnd}
-use Rattle.text.specs.Output.{Put, numbersLine, refusedLine}
-use Rattle.tasks.specs.Limits.{maxTasks, maxCores}
+use Rattle.text.specs.Lines.{line_end}
+use Rattle.text.specs.Output.{Put, numbers_line, refused_line}
+use Rattle.tasks.specs.Limits.{max_tasks, max_cores}
 use Rattle.tasks.specs.declared.outcome.Outcome.{Outcome}
 use Rattle.tasks.specs.declared.outcome.Outcome.TheVariants.{Done, Refused}
 use Rattle.machine.specs.declared.call.Call.{Call}
@@ -10,46 +10,46 @@ use Rattle.machine.specs.declared.call.Call.TheVariants.{Release, Finish, Slot, 
 use Rattle.machine.specs.declared.answer.Answer.{Answer}
 use Rattle.machine.specs.declared.answer.Report.{Report}
 use Rattle.tasks.specs.Flags.{mask}
-use Rattle.script.specs.Words.{doneWord, badLineWord}
+use Rattle.script.specs.Words.{done_word, bad_line_word}
 
 -- "A line that is no call prints `BAD LINE n`", and so does each other line that replay and probe tell by its number
-unfoldable pub badLine : ℕ → List ℕ
-badLine n = badLineWord ++ numbersLine (n ∷ [])
+unfoldable pub bad_line : ℕ → List ℕ
+bad_line n = bad_line_word ++ numbers_line (n ∷ [])
 
 -- "for each runner in rising task number .. its core": those of the runners among the first n tasks
-unfoldable pub runnerCores : (ran : List Bool) → (assigned : List ℕ) → (n : ℕ) → List ℕ
-runnerCores ran assigned zero = []
-runnerCores ran assigned (suc n) = runnerCores ran assigned n ++ cond (get_or ran n false) (get_or assigned n 0 ∷ []) []
+unfoldable pub runner_cores : (ran : List Bool) → (assigned : List ℕ) → (n : ℕ) → List ℕ
+runner_cores ran assigned zero = []
+runner_cores ran assigned (suc n) = runner_cores ran assigned n ++ cond (get_or ran n false) (get_or assigned n 0 ∷ []) []
 
 -- "`RAN FINISHED LATE RUNNERS` as four numbers .. (the first three as sums of 2 to the power task number − 1), and after them" the cores
-unfoldable pub reportLine : Report → List ℕ
-reportLine r =
-    numbersLine (mask r.ran ∷ mask r.finished ∷ mask r.late ∷ r.runners ∷ runnerCores r.ran r.assigned maxTasks)
+unfoldable pub report_line : Report → List ℕ
+report_line r =
+    numbers_line (mask r.ran ∷ mask r.finished ∷ mask r.late ∷ r.runners ∷ runner_cores r.ran r.assigned max_tasks)
 
 -- "`DONE` for an accepted release, finish, offer or commit", and the report "for an accepted slot"
-unfoldable pub acceptedLine : Call → Report → List ℕ
-acceptedLine (Release i e) r = doneWord ++ lineEnd ∷ []
-acceptedLine (Finish i) r = doneWord ++ lineEnd ∷ []
-acceptedLine (Slot k) r = reportLine r
-acceptedLine (Offer t) r = doneWord ++ lineEnd ∷ []
-acceptedLine Commit r = doneWord ++ lineEnd ∷ []
+unfoldable pub accepted_line : Call → Report → List ℕ
+accepted_line (Release i e) r = done_word ++ line_end ∷ []
+accepted_line (Finish i) r = done_word ++ line_end ∷ []
+accepted_line (Slot k) r = report_line r
+accepted_line (Offer t) r = done_word ++ line_end ∷ []
+accepted_line Commit r = done_word ++ line_end ∷ []
 
 -- the line of a call that had an outcome and a report: "`REFUSED n` for a refused call"
-unfoldable pub outcomeLine : Outcome → Call → Report → List ℕ
-outcomeLine Done call r = acceptedLine call r
-outcomeLine (Refused number place) call r = refusedLine number
+unfoldable pub outcome_line : Outcome → Call → Report → List ℕ
+outcome_line Done call r = accepted_line call r
+outcome_line (Refused number place) call r = refused_line number
 
 -- the line of a call and its answer
-unfoldable pub answerLine : Call → Answer → List ℕ
-answerLine call a = outcomeLine a.outcome call a.report
+unfoldable pub answer_line : Call → Answer → List ℕ
+answer_line call a = outcome_line a.outcome call a.report
 
 -- bytes that are enough for a line `REFUSED n` or `BAD LINE n`
-abbrev pub refusalRoom : ℕ
-refusalRoom = 32
+abbrev pub refusal_room : ℕ
+refusal_room = 32
 
 -- bytes that are enough for the line of an answer of the machine: four numbers of ten digits, 16 cores of two, and a byte after each
-abbrev pub answerRoom : ℕ
-answerRoom = 4 * (10 + 1) + maxCores * (2 + 1)
+abbrev pub answer_room : ℕ
+answer_room = 4 * (10 + 1) + max_cores * (2 + 1)
 
 -- a text of at most so many bytes was put after the first `used` bytes of an array
 pub record PutWithin (most : ℕ) (before : List ℕ) (used : ℕ) (text after : List ℕ) (r : ℕ) : Type 0 where

@@ -1,6 +1,6 @@
 // The call of a line, which stands here without its byte 10.
 ghost use Rattle.std.specs.Prelude.{◌≡◌};
-ghost use Rattle.script.specs.Calls.{releaseOf, taskFields, offerOf, call_of};
+ghost use Rattle.script.specs.Calls.{release_of, task_fields, offer_of, call_of};
 
 use crate::task::{TaskFields, task_fields};
 use machine::call::Call;
@@ -22,7 +22,7 @@ pub enum CallLine {
 
 // The release of the fields of a line.
 fn release_fields(fields: &[u8]) -> CallLine
-    ensures { result ≡ releaseOf fields.now }
+    ensures { result ≡ release_of fields.now }
 {
     let mut numbers = [0u32; 2];
     if !fields::fill_from_line(fields, &mut numbers, MAX_DIGITS, MAX_NUMBER) {
@@ -36,7 +36,7 @@ fn release_fields(fields: &[u8]) -> CallLine
 
 // The offer of the fields of a line.
 fn offer_fields(fields: &[u8]) -> CallLine
-    ensures { result ≡ offerOf (taskFields fields.now) }
+    ensures { result ≡ offer_of (task_fields fields.now) }
 {
     let read = task_fields(fields);
     let TaskFields::Read(task) = read else {

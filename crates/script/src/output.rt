@@ -1,7 +1,7 @@
 // The lines of the output. What puts a line answers how many bytes the array then holds.
 ghost use Rattle.std.specs.Prelude.{◌≡◌};
 ghost use Rattle.text.specs.Output.{Put};
-ghost use Rattle.script.specs.Output.{PutWithin, badLine, reportLine, answerLine, refusalRoom};
+ghost use Rattle.script.specs.Output.{PutWithin, bad_line, report_line, answer_line, refusal_room};
 
 use machine::answer::{Answer, Report};
 use machine::call::Call;
@@ -10,15 +10,15 @@ use tasks::limits::{MAX_CORES, MAX_TASKS};
 use tasks::outcome::Outcome;
 use text::output::{put, put_numbers, put_refused};
 
-// Room for a line REFUSED or BAD LINE, in contracts `refusalRoom`.
+// Room for a line REFUSED or BAD LINE, in contracts `refusal_room`.
 pub const REFUSAL_ROOM: usize = 32;
 
-// Room for the line of an answer of the machine, in contracts `answerRoom`: four numbers of ten digits, 16 cores of two, and a byte after each.
+// Room for the line of an answer of the machine, in contracts `answer_room`: four numbers of ten digits, 16 cores of two, and a byte after each.
 pub const ANSWER_ROOM: usize = 4 * (10 + 1) + MAX_CORES as usize * (2 + 1);
 
 // The line for a line of the script that is not what it must be.
 pub fn put_bad_line(output: &mut [u8], used: usize, line: usize) -> usize
-    ensures { PutWithin refusalRoom output.old used (badLine line) output.new result }
+    ensures { PutWithin refusal_room output.old used (bad_line line) output.new result }
 {
     let at = put(output, used, b"BAD LINE ");
     let numbers = [line as u64];
@@ -34,7 +34,7 @@ fn wide(core: u32) -> u64
 
 // The tasks that ran, finished and were late in a slot, the number of runners, and the core of each runner.
 fn put_report(output: &mut [u8], used: usize, report: Report) -> usize
-    ensures { Put output.old used (reportLine report) output.new result }
+    ensures { Put output.old used (report_line report) output.new result }
 {
     let ran = report.ran;
     let finished = report.finished;
@@ -59,7 +59,7 @@ fn put_report(output: &mut [u8], used: usize, report: Report) -> usize
 
 // The line of a call's answer.
 pub fn put_answer(output: &mut [u8], used: usize, call: Call, answer: Answer) -> usize
-    ensures { Put output.old used (answerLine call answer) output.new result }
+    ensures { Put output.old used (answer_line call answer) output.new result }
 {
     let outcome = answer.outcome;
     if let Outcome::Refused { number, place: _ } = outcome {

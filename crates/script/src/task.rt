@@ -1,6 +1,6 @@
 // The task of the fields of a line, for an offer and for what a machine made by hand holds.
 ghost use Rattle.std.specs.Prelude.{◌≡◌};
-ghost use Rattle.script.specs.Calls.{taskFields};
+ghost use Rattle.script.specs.Calls.{task_fields};
 
 use crate::calls::{MAX_DIGITS, MAX_NUMBER};
 use tasks::task::Task;
@@ -15,7 +15,7 @@ pub enum TaskFields {
 
 // The task of the fields of a line.
 pub fn task_fields(fields: &[u8]) -> TaskFields
-    ensures { result ≡ taskFields fields.now }
+    ensures { result ≡ task_fields fields.now }
 {
     let mut numbers = [0u32; 3];
     if !fill_from_line(fields, &mut numbers, MAX_DIGITS, MAX_NUMBER) {

@@ -1,19 +1,19 @@
--- What is printed are the lines of cases j and k: antt computes it. Others cite `case-lines-hold` and `printed-few`.
+-- What is printed are the lines of cases j and k: antt computes it. Others cite `case_lines_hold` and `printed_few`.
 use Prim.Native.Nat.{◌≤◌}
 use native.Mathlib.Omega.{arith}
 use mathlib.Core.Path.{◌≡◌, refl}
 use lib.ListN.{length}
-use Rattle.text.specs.Number.{digitsOf, decimalText}
-use Rattle.text.specs.Output.{furtherNumbers, numbersLine}
+use Rattle.text.specs.Number.{digits_of, decimal_text}
+use Rattle.text.specs.Output.{further_numbers, numbers_line}
 use Rattle.machine.proofs.Computing.{computing}
-use Rattle.session.specs.Printed.{slotLine, slotLinesFrom, releases, session, caseJ, caseK, printed}
-use Rattle.session.specs.CaseLines.{caseLines}
+use Rattle.session.specs.Printed.{slot_line, slot_lines_from, releases, session, case_j, case_k, printed}
+use Rattle.session.specs.CaseLines.{case_lines}
 
-pub case-lines-hold : printed ≡ caseLines
-unfolding computing digitsOf decimalText furtherNumbers numbersLine slotLine slotLinesFrom releases session caseJ caseK printed caseLines
-case-lines-hold = refl
+pub case_lines_hold : printed ≡ case_lines
+unfolding computing digits_of decimal_text further_numbers numbers_line slot_line slot_lines_from releases session case_j case_k printed case_lines
+case_lines_hold = refl
 
 -- eleven lines of eight bytes
-pub printed-few : length printed ≤ 88
-unfolding caseLines
-printed-few = rw case-lines-hold (omega arith)
+pub printed_few : length printed ≤ 88
+unfolding case_lines
+printed_few = rw case_lines_hold (omega arith)

@@ -1,12 +1,12 @@
 // Plays case j of document 01 for six slots, then case k for five, and prints a line for each slot.
 ghost use Rattle.std.specs.Prelude.{◌≤◌, ◌≡◌, List, ◌++◌, length, replicate};
 ghost use Rattle.text.specs.Output.{Put, Holds};
-ghost use Rattle.tasks.specs.Limits.{maxTasks};
+ghost use Rattle.tasks.specs.Limits.{max_tasks};
 ghost use Rattle.machine.specs.Play.{play as log};
 ghost use Rattle.tasks.specs.Written.{task};
 ghost use Rattle.machine.specs.declared.call.Call.{Call};
 ghost use Rattle.machine.specs.declared.call.Call.TheVariants.{Slot};
-ghost use Rattle.session.specs.Printed.{slotLine, slotLinesFrom, releases, caseJ, caseK, printed, room};
+ghost use Rattle.session.specs.Printed.{slot_line, slot_lines_from, releases, case_j, case_k, printed, room};
 
 use machine::answer::Report;
 use machine::machine::Machine;
@@ -25,7 +25,7 @@ const OUTPUT_ROOM: usize = 88;
 
 // Puts a slot's number and the tasks that ran, finished and were late.
 fn put_slot(output: &mut [u8], used: usize, number: u64, report: Report) -> usize
-    ensures { Put output.old used (slotLine number report) output.new result }
+    ensures { Put output.old used (slot_line number report) output.new result }
 {
     let ran = report.ran;
     let finished = report.finished;
@@ -36,7 +36,7 @@ fn put_slot(output: &mut [u8], used: usize, number: u64, report: Report) -> usiz
 
 // Puts a line for each of the next slots of a machine, all of which have so many cores.
 fn play(output: &mut [u8], used: usize, mut machine: Machine, cores: u32, slots: u64) -> usize
-    ensures { Put output.old used (slotLinesFrom 1 (log machine (replicate slots (Slot cores)))) output.new result }
+    ensures { Put output.old used (slot_lines_from 1 (log machine (replicate slots (Slot cores)))) output.new result }
 {
     let mut at = used;
     let mut number: u64 = 0;
@@ -63,8 +63,8 @@ fn task(period: u32, budget: u32, deadline: u32) -> Task
 
 // The machine after the releases of the first `count` tasks of a table with their whole budgets, which print nothing.
 fn released(mut machine: Machine, table: Table, count: u32) -> Machine
-    requires { count ≤ maxTasks }
-    ensures { (calls : List Call) → slotLinesFrom 1 (log machine (releases table count ++ calls)) ≡ slotLinesFrom 1 (log result calls) }
+    requires { count ≤ max_tasks }
+    ensures { (calls : List Call) → slot_lines_from 1 (log machine (releases table count ++ calls)) ≡ slot_lines_from 1 (log result calls) }
 {
     let mut number: u32 = 0;
     while number < count {
@@ -78,7 +78,7 @@ fn released(mut machine: Machine, table: Table, count: u32) -> Machine
 
 // Tasks 6, 2, 3; 6, 2, 3; 6, 5, 6 on 2 cores.
 fn case_j() -> Machine
-    ensures { slotLinesFrom 1 caseJ ≡ slotLinesFrom 1 (log result (replicate 6 (Slot 2))) }
+    ensures { slot_lines_from 1 case_j ≡ slot_lines_from 1 (log result (replicate 6 (Slot 2))) }
 {
     let mut table = Table::empty();
     table.tasks[0] = task(6, 2, 3);
@@ -92,7 +92,7 @@ fn case_j() -> Machine
 
 // Two tasks 5, 5, 5 on 1 core.
 fn case_k() -> Machine
-    ensures { slotLinesFrom 1 caseK ≡ slotLinesFrom 1 (log result (replicate 5 (Slot 1))) }
+    ensures { slot_lines_from 1 case_k ≡ slot_lines_from 1 (log result (replicate 5 (Slot 1))) }
 {
     let mut table = Table::empty();
     table.tasks[0] = task(5, 5, 5);

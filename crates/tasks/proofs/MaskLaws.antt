@@ -1,4 +1,4 @@
--- The mask of a list from its end, as the code goes: `Masked`, with `masked-none` and `masked-more`. How large a mask can be: `mask_below`, and
+-- The mask of a list from its end, as the code goes: `Masked`, with `masked_none` and `masked_more`. How large a mask can be: `mask_below`, and
 -- `masked_small` of the code's.
 use Prim.Native.Nat.{ℕ, suc, ◌+◌, ◌-◌, ◌*◌, ◌^◌, ◌≤◌, ◌<◌}
 use native.Mathlib.Nat.{pow-suc, pow-le-pow_right}
@@ -10,7 +10,7 @@ use mir.Val.{bool_byte}
 use lib.Dec.{lit<}
 use lib.ListN.{length, get_or, drop, length-drop, drop_of_length-le}
 use lib.Seq.{drop-cons}
-use Rattle.laws.proofs.Booleans.{bool-byte}
+use Rattle.laws.proofs.Booleans.{bool_byte_lem}
 use Rattle.laws.specs.Sums.{bit}
 use Rattle.tasks.specs.Flags.{mask}
 
@@ -26,15 +26,15 @@ pub record Masked (named : List Bool) (sum i : ℕ) : Type 0 where
   pub within : i ≤ 32
   pub sum_is : sum ≡ mask (drop i named)
 
-pub masked-none : (named : List Bool) → length named ≡ 32 → Masked named 0 32
+pub masked_none : (named : List Bool) → length named ≡ 32 → Masked named 0 32
 unfolding mask
-masked-none named e =
+masked_none named e =
     let h : length named ≤ 32 = omega arith in
     record { all = e; within = omega arith; sum_is = rw (drop_of_length-le named h) }
 
-byte-bit : (b : Bool) → bool_byte b ≡ bit b
+byte_bit : (b : Bool) → bool_byte b ≡ bit b
 unfolding bit
-byte-bit b = bool-byte b
+byte_bit b = bool_byte_lem b
 
 module _ (named : List Bool) (sum i : ℕ) (m : Masked named sum i) where
   pub masked_small : sum < 2 ^ 32
@@ -42,9 +42,9 @@ module _ (named : List Bool) (sum i : ℕ) (m : Masked named sum i) where
       let few : length (drop i named) ≤ 32 = omega (arith, length-drop i named, m.all) in
       omega (arith, m.sum_is, mask_below (drop i named), pow-le-pow_right {n = 2} (lit< tt) few)
 
-  pub masked-more : 0 < i → Masked named (bool_byte (get_or named (i - 1) false) + 2 * sum) (i - 1)
+  pub masked_more : 0 < i → Masked named (bool_byte (get_or named (i - 1) false) + 2 * sum) (i - 1)
   unfolding mask
-  masked-more h =
+  masked_more h =
       let l : i - 1 < length named = omega (arith, m.all, m.within) in
       let e : suc (i - 1) ≡ i = omega arith in
       let d : drop (i - 1) named ≡ get_or named (i - 1) false ∷ drop i named =
@@ -53,5 +53,5 @@ module _ (named : List Bool) (sum i : ℕ) (m : Masked named sum i) where
       record {
         all = m.all;
         within = omega (arith, m.within);
-        sum_is = rw (d, ← m.sum_is, byte-bit (get_or named (i - 1) false));
+        sum_is = rw (d, ← m.sum_is, byte_bit (get_or named (i - 1) false));
       }

@@ -1,28 +1,28 @@
 -- Whether a given table can be judged or started: document 01, "Why a call is not carried out".
 use Rattle.std.specs.Prelude.{ℕ, zero, suc, ◌+◌, Bool, cond, not, ◌&&◌, List, eqb, leb, ltb, get_or}
-use Rattle.tasks.specs.Limits.{maxTasks, maxCores}
-use Rattle.tasks.specs.Refusals.{tooManyTasks, noTask, taskOutOfRange, coresOutOfRange}
+use Rattle.tasks.specs.Limits.{max_tasks, max_cores}
+use Rattle.tasks.specs.Refusals.{too_many_tasks, no_task, task_out_of_range, cores_out_of_range}
 use Rattle.tasks.specs.Task.{in_range}
-use Rattle.tasks.specs.Table.{zeroTask}
+use Rattle.tasks.specs.Table.{zero_task}
 use Rattle.tasks.specs.declared.task.Task.{Task}
 use Rattle.tasks.specs.declared.table.Table.{Table}
 use Rattle.tasks.specs.declared.outcome.Outcome.{Outcome}
 use Rattle.tasks.specs.declared.outcome.Outcome.TheVariants.{Done, Refused}
 
 -- "5 task by task": the number, from 1, of the first task out of range among the n from index i on; 0 where there is none
-unfoldable pub firstOutOfRange : List Task → (i n : ℕ) → ℕ
-firstOutOfRange tasks i zero = 0
-firstOutOfRange tasks i (suc n) = cond (in_range (get_or tasks i zeroTask)) (firstOutOfRange tasks (i + 1) n) (i + 1)
+unfoldable pub first_out_of_range : List Task → (i n : ℕ) → ℕ
+first_out_of_range tasks i zero = 0
+first_out_of_range tasks i (suc n) = cond (in_range (get_or tasks i zero_task)) (first_out_of_range tasks (i + 1) n) (i + 1)
 
 -- "m is not 1 to 16", the other way round
-unfoldable pub coresInRange : ℕ → Bool
-coresInRange m = leb 1 m && leb m maxCores
+unfoldable pub cores_in_range : ℕ → Bool
+cores_in_range m = leb 1 m && leb m max_cores
 
 -- "Judging or starting a given table: 3, 6, then 5 task by task, then 7"; "For 3, 4 and 5 the answer carries the value line or task, from 1 (33
 -- for number 3)"
 unfoldable pub checked : Table → ℕ → Outcome
 checked t m =
-    let place = firstOutOfRange t.tasks 0 t.count in
-    cond (ltb maxTasks t.count) (Refused tooManyTasks (maxTasks + 1))
-    (cond (eqb t.count 0) (Refused noTask 0)
-    (cond (not (eqb place 0)) (Refused taskOutOfRange place) (cond (not (coresInRange m)) (Refused coresOutOfRange 0) Done)))
+    let place = first_out_of_range t.tasks 0 t.count in
+    cond (ltb max_tasks t.count) (Refused too_many_tasks (max_tasks + 1))
+    (cond (eqb t.count 0) (Refused no_task 0)
+    (cond (not (eqb place 0)) (Refused task_out_of_range place) (cond (not (cores_in_range m)) (Refused cores_out_of_range 0) Done)))

@@ -4,11 +4,11 @@ use Rattle.tasks.specs.declared.outcome.Outcome.{Outcome}
 use Rattle.tasks.specs.declared.outcome.Outcome.TheVariants.{Done, Refused}
 
 -- "A call is accepted when it is not refused"
-unfoldable pub isDone : Outcome → Bool
-isDone Done = true
-isDone (Refused number place) = false
+unfoldable pub is_done : Outcome → Bool
+is_done Done = true
+is_done (Refused number place) = false
 
 -- the refusal of one test, or else what the next test gives
-unfoldable pub firstRefusal : Outcome → Outcome → Outcome
-firstRefusal Done next = next
-firstRefusal (Refused number place) next = Refused number place
+unfoldable pub first_refusal : Outcome → Outcome → Outcome
+first_refusal Done next = next
+first_refusal (Refused number place) next = Refused number place

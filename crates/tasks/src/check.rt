@@ -1,10 +1,10 @@
 // Whether a given table and a number of cores can be judged or started.
 ghost use Rattle.std.specs.Prelude.{◌+◌, ◌≤◌, ◌≡◌, cond, not, eqb};
 ghost use Rattle.tasks.specs.declared.outcome.Outcome.TheVariants.{Done, Refused};
-ghost use Rattle.tasks.specs.Limits.{maxTasks};
-ghost use Rattle.tasks.specs.Refusals.{tooManyTasks, noTask, taskOutOfRange, coresOutOfRange};
-ghost use Rattle.tasks.specs.Numbers.{tasksFrom, tableFrom};
-ghost use Rattle.tasks.specs.Check.{firstOutOfRange, coresInRange, checked};
+ghost use Rattle.tasks.specs.Limits.{max_tasks};
+ghost use Rattle.tasks.specs.Refusals.{too_many_tasks, no_task, task_out_of_range, cores_out_of_range};
+ghost use Rattle.tasks.specs.Numbers.{tasks_from, table_from};
+ghost use Rattle.tasks.specs.Check.{first_out_of_range, cores_in_range, checked};
 
 use crate::limits::{MAX_CORES, MAX_TASKS};
 use crate::outcome::Outcome;
@@ -14,8 +14,8 @@ use crate::task::Task;
 
 // The number, from 1, of the first task that is out of range: 0 where there is none.
 fn first_out_of_range(tasks: [Task; MAX_TASKS], count: usize) -> u32
-    requires { count ≤ maxTasks }
-    ensures { result ≡ firstOutOfRange tasks 0 count }
+    requires { count ≤ max_tasks }
+    ensures { result ≡ first_out_of_range tasks 0 count }
 {
     let mut i: usize = 0;
     while i < count {
@@ -35,8 +35,8 @@ fn first_number_out_of_range<'a>(
     deadlines: &'a PerTask,
     count: usize,
 ) -> u32
-    requires { count ≤ maxTasks }
-    ensures { result ≡ firstOutOfRange (tasksFrom periods.now budgets.now deadlines.now) 0 count }
+    requires { count ≤ max_tasks }
+    ensures { result ≡ first_out_of_range (tasks_from periods.now budgets.now deadlines.now) 0 count }
 {
     let mut i: usize = 0;
     while i < count {
@@ -55,7 +55,7 @@ fn first_number_out_of_range<'a>(
 
 // Whether a number of cores is one of 1 to 16: what number 7 refuses otherwise.
 pub fn cores_in_range(cores: u32) -> bool
-    ensures { result ≡ coresInRange cores }
+    ensures { result ≡ cores_in_range cores }
 {
     if cores < 1 {
         return false;
@@ -66,8 +66,8 @@ pub fn cores_in_range(cores: u32) -> bool
 // Past number 3: Done, or the refusal by how many tasks there are, by the first of them that is out of range, or by the cores.
 fn check_rest(count: usize, place: u32, cores: u32) -> Outcome
     ensures { result
-        ≡ cond (eqb count 0) (Refused noTask 0)
-        (cond (not (eqb place 0)) (Refused taskOutOfRange place) (cond (not (coresInRange cores)) (Refused coresOutOfRange 0) Done)) }
+        ≡ cond (eqb count 0) (Refused no_task 0)
+        (cond (not (eqb place 0)) (Refused task_out_of_range place) (cond (not (cores_in_range cores)) (Refused cores_out_of_range 0) Done)) }
 {
     if count == 0 {
         return Outcome::Refused {
@@ -92,7 +92,7 @@ fn check_rest(count: usize, place: u32, cores: u32) -> Outcome
 
 // The refusal of a table of more than 32 tasks.
 pub fn too_many() -> Outcome
-    ensures { result ≡ Refused tooManyTasks (maxTasks + 1) }
+    ensures { result ≡ Refused too_many_tasks (max_tasks + 1) }
 {
     Outcome::Refused {
         number: TOO_MANY_TASKS,
@@ -121,7 +121,7 @@ pub fn check_numbers<'a>(
     count: usize,
     cores: u32,
 ) -> Outcome
-    ensures { result ≡ checked (tableFrom periods.now budgets.now deadlines.now count) cores }
+    ensures { result ≡ checked (table_from periods.now budgets.now deadlines.now count) cores }
 {
     if MAX_TASKS < count {
         return too_many();

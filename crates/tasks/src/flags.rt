@@ -1,6 +1,6 @@
 // Some of a table's tasks: a flag for each task, and all flags as one number.
 ghost use Rattle.std.specs.Prelude.{◌≡◌};
-ghost use Rattle.tasks.specs.Flags.{mask, flagsOf};
+ghost use Rattle.tasks.specs.Flags.{mask, flags_of};
 
 use crate::limits::MAX_TASKS;
 
@@ -22,7 +22,7 @@ pub fn mask(named: Flags) -> u64
 
 // The tasks that such a sum names.
 pub fn flags_of(sum: u32) -> Flags
-    ensures { result ≡ flagsOf sum }
+    ensures { result ≡ flags_of sum }
 {
     let mut named = [false; MAX_TASKS];
     let mut rest = sum;

@@ -1,6 +1,6 @@
 // A table of tasks.
 ghost use Rattle.std.specs.Prelude.{◌≡◌};
-ghost use Rattle.tasks.specs.Table.{emptyTable};
+ghost use Rattle.tasks.specs.Table.{empty_table};
 
 use crate::limits::MAX_TASKS;
 use crate::task::Task;
@@ -18,7 +18,7 @@ pub type PerTask = [u32; MAX_TASKS];
 impl Table {
     // The table of zero tasks with all its numbers 0.
     pub fn empty() -> Self
-        ensures { result ≡ emptyTable }
+        ensures { result ≡ empty_table }
     {
         let zero = Task {
             period: 0,

@@ -1,5 +1,5 @@
--- An array that is filled from a line of numbers, one field at a time. Others cite `SoFar`, the state between two fields, with `so-far-none` and
--- `so_far_more`, what the answer says of the line where the reading stops: `no_number`, `last-field` and `fields-left`, and `entry-is`, each entry of
+-- An array that is filled from a line of numbers, one field at a time. Others cite `SoFar`, the state between two fields, with `so_far_none` and
+-- `so_far_more`, what the answer says of the line where the reading stops: `no_number`, `last_field` and `fields_left`, and `entry_is`, each entry of
 -- the array after a line of as many numbers.
 use Prim.Native.Nat.{ℕ, zero, suc, ◌+◌, ◌-◌, ◌≤◌, ◌<◌}
 use native.Mathlib.Numerals.{add-one}
@@ -11,64 +11,64 @@ use borrow.Author.Tests.{eqb-true}
 use lib.Dec.{eqb}
 use lib.ListN.{length, get_or, set, take, drop, length-set, take-append-drop, drop_of_length-le}
 use lib.Seq.{drop-cons, set_split, take_all, take-suc-set, drop-set-lt}
-use Rattle.laws.proofs.CaseSplits.{by-test}
-use Rattle.laws.proofs.Tests.{same-eqb}
-use Rattle.laws.proofs.Parts.{past, from-length}
+use Rattle.laws.proofs.CaseSplits.{by_test}
+use Rattle.laws.proofs.Tests.{same_eqb}
+use Rattle.laws.proofs.Parts.{past, from_length}
 use Rattle.text.specs.Lines.{space, has, before, after, field}
-use Rattle.text.specs.Number.{decimal, wellFormed, is_number, numberUpTo}
-use Rattle.text.specs.Fields.{areNumbers, numbersInto, FilledFromLine}
+use Rattle.text.specs.Number.{decimal, well_formed, is_number, number_up_to}
+use Rattle.text.specs.Fields.{are_numbers, numbers_into, FilledFromLine}
 use Rattle.text.specs.declared.number.Before.TheVariants.{Read, Broken}
-use Rattle.text.proofs.Split.{gone-rest, hasnt-of, cut}
-use Rattle.text.proofs.NumberLaws.{up_to, not-up-to}
-use Rattle.text.proofs.NumbersOn.{no-numbers, first-none, first-only, first_then}
+use Rattle.text.proofs.Split.{gone_rest, hasnt_of, cut}
+use Rattle.text.proofs.NumberLaws.{up_to, not_up_to}
+use Rattle.text.proofs.NumbersOn.{no_numbers, first_none, first_only, first_then}
 
 module _ (k largest : ℕ) where
   -- between two fields: the array's first i entries are done, and the rest of the line goes into the others
   pub record SoFar (line array₀ array rest : List ℕ) (i : ℕ) : Type 0 where
     pub few : length rest ≤ length line
     pub size : length array ≡ length array₀
-    pub left : areNumbers k largest (length array₀) line ≡ areNumbers k largest (length array₀ - i) rest
-    pub done : numbersInto k largest line array₀ ≡ take i array ++ numbersInto k largest rest (drop i array)
+    pub left : are_numbers k largest (length array₀) line ≡ are_numbers k largest (length array₀ - i) rest
+    pub done : numbers_into k largest line array₀ ≡ take i array ++ numbers_into k largest rest (drop i array)
 
-  pub so-far-none : (line array : List ℕ) → SoFar line array array line 0
-  so-far-none line array =
+  pub so_far_none : (line array : List ℕ) → SoFar line array array line 0
+  so_far_none line array =
       let z : length array - 0 ≡ length array = omega arith in record { few = omega arith; size = refl; left = rw z; done = refl }
 
   -- a line of one number or more begins with one
-  first-is : (m : ℕ) (s : List ℕ) → areNumbers k largest (suc m) s ≡ true → is_number k largest (before space s) ≡ true
-  first-is m s e = by-test (is_number k largest (before space s)) (λ t. t) (λ f. absurd (false≢true (sym (first-none k largest m s f) ∙ e)))
+  first_is_lem : (m : ℕ) (s : List ℕ) → are_numbers k largest (suc m) s ≡ true → is_number k largest (before space s) ≡ true
+  first_is_lem m s e = by_test (is_number k largest (before space s)) (λ t. t) (λ f. absurd (false≢true (sym (first_none k largest m s f) ∙ e)))
 
   -- nothing goes into an array where no field is left
-  into-none : (a : List ℕ) → numbersInto k largest [] a ≡ a
-  unfolding numbersInto field before is_number wellFormed
-  into-none [] = refl
-  into-none (x ∷ a) = refl
+  into_none : (a : List ℕ) → numbers_into k largest [] a ≡ a
+  unfolding numbers_into field before is_number well_formed
+  into_none [] = refl
+  into_none (x ∷ a) = refl
 
   number_at :
-      (line array : List ℕ) → areNumbers k largest (length array) line ≡ true → (j : ℕ) → j < length array
-      → get_or (numbersInto k largest line array) j 0 ≡ decimal (field j line)
-  unfolding numbersInto field
+      (line array : List ℕ) → are_numbers k largest (length array) line ≡ true → (j : ℕ) → j < length array
+      → get_or (numbers_into k largest line array) j 0 ≡ decimal (field j line)
+  unfolding numbers_into field
   number_at line [] e j h = absurd (omega arith)
-  number_at line (x ∷ a) e zero h = rw (first-is (length a) line e)
+  number_at line (x ∷ a) e zero h = rw (first_is_lem (length a) line e)
   number_at line (x ∷ a) e (suc j) h =
-      let t = first-is (length a) line e in
+      let t = first_is_lem (length a) line e in
       rw t
-      (by-test (has space line)
+      (by_test (has space line)
       (λ m. number_at (after space line) a (sym (first_then k largest (length a) line m t) ∙ e) j (omega arith))
-      (λ m. absurd (omega (arith, eqb-true (suc (length a)) 1 (sym (first-only k largest (length a) line m t) ∙ e)))))
+      (λ m. absurd (omega (arith, eqb-true (suc (length a)) 1 (sym (first_only k largest (length a) line m t) ∙ e)))))
 
-  pub entry-is :
+  pub entry_is :
       (line array after : List ℕ) → FilledFromLine k largest line array after true → (j : ℕ) → j < length array → get_or after j 0 ≡ decimal (field j line)
-  entry-is line array after p j h = rw p.filled (number_at line array (sym p.is) j h)
+  entry_is line array after p j h = rw p.filled (number_at line array (sym p.is) j h)
 
   module _ (line array₀ array rest : List ℕ) (i : ℕ) (p : SoFar line array₀ array rest i) where
     -- the array is full, and there is another field
-    pub fields-left : length array ≤ i → FilledFromLine k largest line array₀ array false
-    unfolding numbersInto
-    fields-left h =
+    pub fields_left : length array ≤ i → FilledFromLine k largest line array₀ array false
+    unfolding numbers_into
+    fields_left h =
         let z : length array₀ - i ≡ 0 = omega (arith, p.size) in
         record {
-          is = sym (p.left ∙ rw (z, no-numbers k largest rest));
+          is = sym (p.left ∙ rw (z, no_numbers k largest rest));
           filled = sym (p.done ∙ rw (drop_of_length-le array h, append-nil) (take_all i array h));
         }
 
@@ -77,30 +77,30 @@ module _ (k largest : ℕ) where
       another : length array₀ - i ≡ suc (length array₀ - (i + 1))
       another = omega (arith, p.size)
 
-      pub no_number : numberUpTo k largest space rest ≡ Broken → FilledFromLine k largest line array₀ array false
-      unfolding numbersInto field
+      pub no_number : number_up_to k largest space rest ≡ Broken → FilledFromLine k largest line array₀ array false
+      unfolding numbers_into field
       no_number e =
-          let f = not-up-to k largest space rest e in
+          let f = not_up_to k largest space rest e in
           record {
-            is = sym (p.left ∙ rw another (first-none k largest (length array₀ - (i + 1)) rest f));
+            is = sym (p.left ∙ rw another (first_none k largest (length array₀ - (i + 1)) rest f));
             filled = sym (p.done ∙ rw (drop-cons array i 0 h, f, ← drop-cons array i 0 h) (take-append-drop i array));
           }
 
       -- which is a number of b bytes
-      module _ (n b : ℕ) (e : numberUpTo k largest space rest ≡ Read n b) where
-        one_more : numbersInto k largest line array₀ ≡ take i array ++ n ∷ numbersInto k largest (after space rest) (drop (suc i) array)
-        unfolding numbersInto field
+      module _ (n b : ℕ) (e : number_up_to k largest space rest ≡ Read n b) where
+        one_more : numbers_into k largest line array₀ ≡ take i array ++ n ∷ numbers_into k largest (after space rest) (drop (suc i) array)
+        unfolding numbers_into field
         one_more = let w = (up_to k largest space rest n b e).0 in p.done ∙ rw (drop-cons array i 0 h, w.is, w.value)
 
-        pub last-field : length rest ≤ b → FilledFromLine k largest line array₀ (set array i n) (eqb (i + 1) (length (set array i n)))
-        last-field l =
+        pub last_field : length rest ≤ b → FilledFromLine k largest line array₀ (set array i n) (eqb (i + 1) (length (set array i n)))
+        last_field l =
             let (w, c) = up_to k largest space rest n b e in
             let m = length array₀ - (i + 1) in
-            let only = hasnt-of space rest (omega (arith, c)) in
-            let is : areNumbers k largest (length array₀) line ≡ eqb (suc m) 1 = p.left ∙ rw another (first-only k largest m rest only w.is) in
+            let only = hasnt_of space rest (omega (arith, c)) in
+            let is : are_numbers k largest (length array₀) line ≡ eqb (suc m) 1 = p.left ∙ rw another (first_only k largest m rest only w.is) in
             record {
-              is = rw (length-set array i n) (sym (is ∙ same-eqb (suc m) 1 (i + 1) (length array) (λ q. omega (arith, p.size)) (λ q. omega (arith, p.size))));
-              filled = set_split array i n h ∙ sym (one_more ∙ rw (gone-rest space rest only, into-none (drop (suc i) array)));
+              is = rw (length-set array i n) (sym (is ∙ same_eqb (suc m) 1 (i + 1) (length array) (λ q. omega (arith, p.size)) (λ q. omega (arith, p.size))));
+              filled = set_split array i n h ∙ sym (one_more ∙ rw (gone_rest space rest only, into_none (drop (suc i) array)));
             }
 
         pub so_far_more : b < length rest → SoFar line array₀ (set array i n) (past rest b) (i + 1)
@@ -108,12 +108,12 @@ module _ (k largest : ℕ) where
             let (w, c) = up_to k largest space rest n b e in
             let d = cut space rest b c l in
             record {
-              few = omega (arith, p.few, from-length rest (b + 1));
+              few = omega (arith, p.few, from_length rest (b + 1));
               size = length-set array i n ∙ p.size;
               left = rw d.rest (p.left ∙ rw another (first_then k largest (length array₀ - (i + 1)) rest d.is w.is));
               done =
                   one_more
                   ∙ sym
                   (rw (add-one i, d.rest, take-suc-set array i n h, drop-set-lt (suc i) array i n (omega arith))
-                  (append_assoc (take i array) (n ∷ []) (numbersInto k largest (after space rest) (drop (suc i) array))));
+                  (append_assoc (take i array) (n ∷ []) (numbers_into k largest (after space rest) (drop (suc i) array))));
             }

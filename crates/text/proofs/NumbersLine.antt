@@ -1,4 +1,4 @@
--- A line of numbers, one number at a time, for the loop that puts it: `first-number`, `next-number`, `no_number`.
+-- A line of numbers, one number at a time, for the loop that puts it: `first_number`, `next_number`, `no_number`.
 use Prim.Native.Nat.{ℕ, ◌+◌, ◌≤◌, ◌<◌}
 use native.Mathlib.Numerals.{add-one}
 use native.Mathlib.Omega.{arith}
@@ -6,21 +6,21 @@ use mathlib.Core.Path.{◌≡◌, refl}
 use mathlib.Core.List.{List, [], ◌∷◌, ◌++◌}
 use lib.ListN.{length, get_or, drop, drop_of_length-le}
 use lib.Seq.{drop-cons}
-use Rattle.text.specs.Lines.{lineEnd, space}
-use Rattle.text.specs.Number.{decimalText}
-use Rattle.text.specs.Output.{furtherNumbers, numbersLine}
+use Rattle.text.specs.Lines.{line_end, space}
+use Rattle.text.specs.Number.{decimal_text}
+use Rattle.text.specs.Output.{further_numbers, numbers_line}
 
-pub first-number : (ns : List ℕ) → 0 < length ns → numbersLine ns ≡ decimalText (get_or ns 0 0) ++ furtherNumbers (drop 1 ns)
-unfolding numbersLine
-first-number [] h = absurd (omega arith)
-first-number (n ∷ ns) h = refl
+pub first_number : (ns : List ℕ) → 0 < length ns → numbers_line ns ≡ decimal_text (get_or ns 0 0) ++ further_numbers (drop 1 ns)
+unfolding numbers_line
+first_number [] h = absurd (omega arith)
+first_number (n ∷ ns) h = refl
 
 module _ (ns : List ℕ) (i : ℕ) where
-  pub next-number :
-      i < length ns → furtherNumbers (drop i ns) ≡ (space ∷ []) ++ decimalText (get_or ns i 0) ++ furtherNumbers (drop (i + 1) ns)
-  unfolding furtherNumbers
-  next-number h = rw (add-one, drop-cons ns i 0 h)
+  pub next_number :
+      i < length ns → further_numbers (drop i ns) ≡ (space ∷ []) ++ decimal_text (get_or ns i 0) ++ further_numbers (drop (i + 1) ns)
+  unfolding further_numbers
+  next_number h = rw (add-one, drop-cons ns i 0 h)
 
-  pub no_number : length ns ≤ i → furtherNumbers (drop i ns) ≡ lineEnd ∷ []
-  unfolding furtherNumbers
+  pub no_number : length ns ≤ i → further_numbers (drop i ns) ≡ line_end ∷ []
+  unfolding further_numbers
   no_number h = rw (drop_of_length-le ns h)

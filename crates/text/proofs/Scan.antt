@@ -1,6 +1,6 @@
--- The search for the first byte b of a text. Others cite `Passed` with its laws: the first i bytes are no b (`passed_none`, `passed-more`,
--- `passed-next`), and what is known at the next byte (`at_other`, `met`), at the end of the text (`missed-count`), at either (`stopped`), and of what is left
--- (`passed-rest`).
+-- The search for the first byte b of a text. Others cite `Passed` with its laws: the first i bytes are no b (`passed_none`, `passed_more`,
+-- `passed_next`), and what is known at the next byte (`at_other`, `met`), at the end of the text (`missed_count`), at either (`stopped`), and of what is left
+-- (`passed_rest`).
 use Prim.Native.Nat.{ℕ, suc, ◌+◌, ◌≤◌, ◌<◌}
 use native.Mathlib.Numerals.{add-one}
 use native.Mathlib.Omega.{arith}
@@ -11,7 +11,7 @@ use mathlib.Core.List.{List, ◌∷◌, ◌++◌, append-nil}
 use lib.ListN.{length, get_or, take, drop, length-append, drop_of_length-le}
 use lib.Seq.{drop-cons, take-suc, length-take-le, take_all, get_or_at, append_snoc}
 use borrow.Author.Tests.{eq-eqb, ne_eqb}
-use Rattle.laws.proofs.Parts.{from, from-drop}
+use Rattle.laws.proofs.Parts.{from, from_drop}
 use Rattle.text.specs.Lines.{has, before}
 use Rattle.text.proofs.Split.{gone}
 
@@ -29,28 +29,28 @@ has_other : (b x : ℕ) (s : List ℕ) → (x ≡ b → ⊥) → has b (x ∷ s)
 unfolding has
 has_other b x s n = rw (ne_eqb x b n)
 
-before-other : (b x : ℕ) (s : List ℕ) → (x ≡ b → ⊥) → before b (x ∷ s) ≡ x ∷ before b s
+before_other : (b x : ℕ) (s : List ℕ) → (x ≡ b → ⊥) → before b (x ∷ s) ≡ x ∷ before b s
 unfolding before
-before-other b x s n = rw (ne_eqb x b n)
+before_other b x s n = rw (ne_eqb x b n)
 
-pub passed-more : (b : ℕ) (s : List ℕ) (i : ℕ) → Passed b s i → i < length s → (get_or s i 0 ≡ b → ⊥) → Passed b s (i + 1)
-passed-more b s i p h n =
+pub passed_more : (b : ℕ) (s : List ℕ) (i : ℕ) → Passed b s i → i < length s → (get_or s i 0 ≡ b → ⊥) → Passed b s (i + 1)
+passed_more b s i p h n =
     record {
       within = omega arith;
       there = p.there ∙ rw (add-one, drop-cons s i 0 h) (has_other b (get_or s i 0) (drop (suc i) s) n);
       front =
           p.front
-          ∙ rw (add-one, drop-cons s i 0 h, before-other b (get_or s i 0) (drop (suc i) s) n, take-suc s i 0 h)
+          ∙ rw (add-one, drop-cons s i 0 h, before_other b (get_or s i 0) (drop (suc i) s) n, take-suc s i 0 h)
           (sym (append_snoc (take i s) (get_or s i 0) (before b (drop (suc i) s))));
     }
 
-pub passed-next : (b : ℕ) (s : List ℕ) (i : ℕ) → Passed b s i → i < length s → (get_or s i 0 ≡ b → ⊥) → (j : ℕ) → j ≡ i + 1 → Passed b s j
-passed-next b s i p h n j e = rw e (passed-more b s i p h n)
+pub passed_next : (b : ℕ) (s : List ℕ) (i : ℕ) → Passed b s i → i < length s → (get_or s i 0 ≡ b → ⊥) → (j : ℕ) → j ≡ i + 1 → Passed b s j
+passed_next b s i p h n j e = rw e (passed_more b s i p h n)
 
 -- the scan goes on in what is left
-pub passed-rest : (b : ℕ) (s : List ℕ) (i : ℕ) → Passed b s i → (r : ℕ) → r ≡ length (before b (from s i)) → i + r ≡ length (before b s)
-passed-rest b s i p r e =
-    let q : r ≡ length (before b (drop i s)) = rw (from-drop s i) at e in
+pub passed_rest : (b : ℕ) (s : List ℕ) (i : ℕ) → Passed b s i → (r : ℕ) → r ≡ length (before b (from s i)) → i + r ≡ length (before b s)
+passed_rest b s i p r e =
+    let q : r ≡ length (before b (drop i s)) = rw (from_drop s i) at e in
     rw (p.front, length-append, length-take-le i s p.within, q)
 
 -- the scan is at another byte, which is then one of those before b
@@ -61,7 +61,7 @@ pub record Other (b : ℕ) (s : List ℕ) (i : ℕ) : Type 0 where
 pub at_other : (b : ℕ) (s : List ℕ) (i : ℕ) → Passed b s i → i < length s → (get_or s i 0 ≡ b → ⊥) → Other b s i
 at_other b s i p h n =
     let r = before b (drop (suc i) s) in
-    let e : before b s ≡ take i s ++ get_or s i 0 ∷ r = p.front ∙ rw (drop-cons s i 0 h) (rw (before-other b (get_or s i 0) (drop (suc i) s) n)) in
+    let e : before b s ≡ take i s ++ get_or s i 0 ∷ r = p.front ∙ rw (drop-cons s i 0 h) (rw (before_other b (get_or s i 0) (drop (suc i) s) n)) in
     let l = length-take-le i s p.within in
     record { inside = rw e (simp length-append (omega (arith, l))); same = rw e (get_or_at (take i s) (get_or s i 0) r 0 i l) }
 
@@ -86,8 +86,8 @@ missed : (b : ℕ) (s : List ℕ) (i : ℕ) → Passed b s i → length s ≤ i 
 unfolding has
 missed b s i p h = p.there ∙ rw (drop_of_length-le s h)
 
-pub missed-count : (b : ℕ) (s : List ℕ) (i : ℕ) → Passed b s i → length s ≤ i → length (before b s) ≡ i
-missed-count b s i p h = omega (arith, ap length (gone b s (missed b s i p h)))
+pub missed_count : (b : ℕ) (s : List ℕ) (i : ℕ) → Passed b s i → length s ≤ i → length (before b s) ≡ i
+missed_count b s i p h = omega (arith, ap length (gone b s (missed b s i p h)))
 
 -- where it stops, at b or at the end: what stands before b is what was passed
 pub stopped :
@@ -95,5 +95,5 @@ pub stopped :
     → (before b s ≡ take i s) × (length (before b s) ≡ i)
 stopped b s i p =
     ⊎_elim
-    (λ h. (gone b s (missed b s i p h) ∙ sym (take_all i s h), missed-count b s i p h))
+    (λ h. (gone b s (missed b s i p h) ∙ sym (take_all i s h), missed_count b s i p h))
     (λ h. let m = met b s i p h.0 h.1 in (m.front, m.count))

@@ -1,6 +1,6 @@
 -- A text split at its first byte b: laws of `has`, `before` and `after`. Others cite `here` (b is in the text: its three parts), `gone` and
--- `gone-rest` (it is not), `before-fits` and `before-front` (either), `has_of` and `hasnt-of` (which of the two, by how many bytes stand before b),
--- `cut` (the parts as the code has them), `has-append` (two texts put together), and `inner`, `outer`, `has-past` and `has-after` (which of two bytes
+-- `gone_rest` (it is not), `before_fits` and `before_front` (either), `has_of` and `hasnt_of` (which of the two, by how many bytes stand before b),
+-- `cut` (the parts as the code has them), `has_append` (two texts put together), and `inner`, `outer`, `has_past` and `has_after` (which of two bytes
 -- comes first).
 use Prim.Native.Nat.{ℕ, ◌+◌, ◌≤◌, ◌<◌}
 use native.Mathlib.Nat.{le_refl, lt_irrefl, not-le_of_lt}
@@ -12,8 +12,8 @@ use lib.Dec.{eqb}
 use lib.ListN.{length, take, drop, length-append}
 use lib.Seq.{take-append_seam, drop-append-add, take_all}
 use borrow.Author.Tests.{ne_eqb, eqb-true}
-use Rattle.laws.proofs.CaseSplits.{by-test}
-use Rattle.laws.proofs.Parts.{past, from-drop}
+use Rattle.laws.proofs.CaseSplits.{by_test}
+use Rattle.laws.proofs.Parts.{past, from_drop}
 use Rattle.text.specs.Lines.{has, before, after}
 
 -- b is in s: what stands before it and after it
@@ -27,7 +27,7 @@ whole_of : (b : ℕ) (s : List ℕ) → has b s ≡ true → s ≡ before b s ++
 unfolding has before after
 whole_of b [] h = absurd (false≢true h)
 whole_of b (x ∷ s) h =
-    by-test (eqb x b)
+    by_test (eqb x b)
     (λ e. rw e (ap (λ (y : ℕ). y ∷ s) (eqb-true x b e)))
     (λ e. rw e (ap (λ (l : List ℕ). x ∷ l) (whole_of b s (rw e at h))))
 
@@ -55,40 +55,40 @@ pub gone : (b : ℕ) (s : List ℕ) → has b s ≡ false → before b s ≡ s
 unfolding has before
 gone b [] h = refl
 gone b (x ∷ s) h =
-    by-test (eqb x b) (λ e. absurd (false≢true (sym (rw e at h)))) (λ e. rw e (ap (λ (l : List ℕ). x ∷ l) (gone b s (rw e at h))))
+    by_test (eqb x b) (λ e. absurd (false≢true (sym (rw e at h)))) (λ e. rw e (ap (λ (l : List ℕ). x ∷ l) (gone b s (rw e at h))))
 
-pub gone-rest : (b : ℕ) (s : List ℕ) → has b s ≡ false → after b s ≡ []
+pub gone_rest : (b : ℕ) (s : List ℕ) → has b s ≡ false → after b s ≡ []
 unfolding has after
-gone-rest b [] h = refl
-gone-rest b (x ∷ s) h = by-test (eqb x b) (λ e. absurd (false≢true (sym (rw e at h)))) (λ e. rw e (gone-rest b s (rw e at h)))
+gone_rest b [] h = refl
+gone_rest b (x ∷ s) h = by_test (eqb x b) (λ e. absurd (false≢true (sym (rw e at h)))) (λ e. rw e (gone_rest b s (rw e at h)))
 
 -- by how many bytes stand before b: fewer than there are, or all
 pub has_of : (b : ℕ) (s : List ℕ) → length (before b s) < length s → has b s ≡ true
-has_of b s h = by-test (has b s) (λ e. e) (λ e. absurd (lt_irrefl (length s) (rw (gone b s e) at h)))
+has_of b s h = by_test (has b s) (λ e. e) (λ e. absurd (lt_irrefl (length s) (rw (gone b s e) at h)))
 
-pub hasnt-of : (b : ℕ) (s : List ℕ) → length s ≤ length (before b s) → has b s ≡ false
-hasnt-of b s h = by-test (has b s) (λ e. absurd (not-le_of_lt (here b s e).within h)) (λ e. e)
+pub hasnt_of : (b : ℕ) (s : List ℕ) → length s ≤ length (before b s) → has b s ≡ false
+hasnt_of b s h = by_test (has b s) (λ e. absurd (not-le_of_lt (here b s e).within h)) (λ e. e)
 
 -- a byte of two texts put together
-pub has-append : (b : ℕ) (f g : List ℕ) → has b (f ++ g) ≡ (has b f || has b g)
+pub has_append : (b : ℕ) (f g : List ℕ) → has b (f ++ g) ≡ (has b f || has b g)
 unfolding has
-has-append b [] g = refl
-has-append b (x ∷ f) g = by-test (eqb x b) (λ e. rw e) (λ e. rw e (has-append b f g))
+has_append b [] g = refl
+has_append b (x ∷ f) g = by_test (eqb x b) (λ e. rw e) (λ e. rw e (has_append b f g))
 
 -- a byte e that is not before the first b is after it, or nowhere
-pub has-past : (b e : ℕ) (s : List ℕ) → eqb b e ≡ false → has b s ≡ true → has e (before b s) ≡ false → has e s ≡ has e (after b s)
+pub has_past : (b e : ℕ) (s : List ℕ) → eqb b e ≡ false → has b s ≡ true → has e (before b s) ≡ false → has e s ≡ has e (after b s)
 unfolding has
-has-past b e s n i f = ap (has e) (here b s i).whole ∙ has-append e (before b s) (b ∷ after b s) ∙ rw (f, n)
+has_past b e s n i f = ap (has e) (here b s i).whole ∙ has_append e (before b s) (b ∷ after b s) ∙ rw (f, n)
 
-pub has-after : (b e : ℕ) (s : List ℕ) → eqb b e ≡ false → has b s ≡ true → has e s ≡ true → has e (before b s) ≡ false → has e (after b s) ≡ true
-has-after b e s n i h f = sym (has-past b e s n i f) ∙ h
+pub has_after : (b e : ℕ) (s : List ℕ) → eqb b e ≡ false → has b s ≡ true → has e s ≡ true → has e (before b s) ≡ false → has e (after b s) ≡ true
+has_after b e s n i h f = sym (has_past b e s n i f) ∙ h
 
-pub before-fits : (b : ℕ) (s : List ℕ) → length (before b s) ≤ length s
-before-fits b s = by-test (has b s) (λ h. omega (arith, (here b s h).within)) (λ h. omega (arith, ap length (gone b s h)))
+pub before_fits : (b : ℕ) (s : List ℕ) → length (before b s) ≤ length s
+before_fits b s = by_test (has b s) (λ h. omega (arith, (here b s h).within)) (λ h. omega (arith, ap length (gone b s h)))
 
 -- as many first bytes of a text as stand before b are those
-pub before-front : (b : ℕ) (s : List ℕ) → take (length (before b s)) s ≡ before b s
-before-front b s = by-test (has b s) (λ h. (here b s h).front) (λ h. rw (gone b s h) (take_all (length s) s (le_refl (length s))))
+pub before_front : (b : ℕ) (s : List ℕ) → take (length (before b s)) s ≡ before b s
+before_front b s = by_test (has b s) (λ h. (here b s h).front) (λ h. rw (gone b s h) (take_all (length s) s (le_refl (length s))))
 
 -- the parts of a slice on either side of a byte that was found at r, as the code has them
 pub record Cut (b : ℕ) (s : List ℕ) (r : ℕ) : Type 0 where
@@ -102,7 +102,7 @@ cut b s r e h =
     record {
       is = i;
       front = rw e (here b s i).front;
-      rest = from-drop s (r + 1) ∙ rw e (here b s i).rest;
+      rest = from_drop s (r + 1) ∙ rw e (here b s i).rest;
     }
 
 -- the first b of a text stands before its first e, which is another byte
@@ -116,10 +116,10 @@ module _ (b e : ℕ) (ne : b ≡ e → ⊥) where
   unfolding has before after
   inner [] h = absurd (false≢true h)
   inner (x ∷ s) h =
-      by-test (eqb x e)
+      by_test (eqb x e)
       (λ p. absurd (false≢true (rw p at h)))
       (λ p.
-      by-test (eqb x b)
+      by_test (eqb x b)
       (λ q. record { there = rw q; first = rw (p, q); rest = rw (p, q) })
       (λ q. let i = inner s (rw (p, q) at h) in record { there = rw (q, i.there); first = rw (p, q, i.first); rest = rw (p, q, i.rest) }))
 
@@ -128,8 +128,8 @@ module _ (b e : ℕ) (ne : b ≡ e → ⊥) where
   unfolding has before
   outer [] h n = absurd (false≢true h)
   outer (x ∷ s) h n =
-      by-test (eqb x b)
+      by_test (eqb x b)
       (λ q.
       let p : eqb x e ≡ false = ne_eqb x e (λ same. ne (sym (eqb-true x b q) ∙ same)) in
       absurd (false≢true (sym (rw (p, q) at n))))
-      (λ q. by-test (eqb x e) (λ p. rw (q, p)) (λ p. rw (q, p) (outer s (rw q at h) (rw (p, q) at n))))
+      (λ q. by_test (eqb x e) (λ p. rw (q, p)) (λ p. rw (q, p) (outer s (rw q at h) (rw (p, q) at n))))

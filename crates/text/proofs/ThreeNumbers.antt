@@ -1,5 +1,5 @@
--- What the three numbers of a text's first line are where their reader stops: `no-first`, `one_field`, `no_second`, `two_fields`, `no_third` and
--- `all_three`; and what `threeNumbers` says of a text: `three-are`, `three-are-not`.
+-- What the three numbers of a text's first line are where their reader stops: `no_first`, `one_field`, `no_second`, `two_fields`, `no_third` and
+-- `all_three`; and what `three_numbers` says of a text: `three_are`, `three_are_not`.
 use Prim.Native.Nat.{ℕ, ◌+◌, ◌≤◌, ◌<◌}
 use native.Mathlib.Omega.{arith}
 use mathlib.Core.Path.{◌≡◌, sym, ap, ◌∙◌}
@@ -8,38 +8,38 @@ use mathlib.Core.List.{List}
 use lib.ListN.{length}
 use Rattle.laws.proofs.CaseSplits.{by_cond, clash}
 use Rattle.laws.proofs.Parts.{past}
-use Rattle.text.specs.Lines.{lineEnd, space, has, before, after, field}
-use Rattle.text.specs.Number.{decimal, is_number, numberUpTo}
-use Rattle.text.specs.Fields.{areNumbers, threeNumbers}
+use Rattle.text.specs.Lines.{line_end, space, has, before, after, field}
+use Rattle.text.specs.Number.{decimal, is_number, number_up_to}
+use Rattle.text.specs.Fields.{are_numbers, three_numbers}
 use Rattle.text.specs.declared.number.Before.TheVariants as Before
 use Rattle.text.specs.declared.fields.Numbers.TheVariants.{Three, Broken}
-use Rattle.text.proofs.Split.{gone, hasnt-of, cut}
-use Rattle.text.proofs.NumberLaws.{up_to, not-up-to}
-use Rattle.text.proofs.NumbersOn.{numbersOn, unspaced, are-numbers, on_line, first_on}
+use Rattle.text.proofs.Split.{gone, hasnt_of, cut}
+use Rattle.text.proofs.NumberLaws.{up_to, not_up_to}
+use Rattle.text.proofs.NumbersOn.{numbers_on, unspaced, are_numbers_lem, on_line, first_on}
 
 module _ (k largest : ℕ) (s : List ℕ) where
   -- the three tests as the code makes them
   tests :
-      areNumbers k largest 3 (before lineEnd s)
+      are_numbers k largest 3 (before line_end s)
       ≡ (has space s && is_number k largest (before space s)
       && (has space (after space s) && is_number k largest (before space (after space s))
-      && is_number k largest (before lineEnd (after space (after space s)))))
-  unfolding numbersOn
-  tests = are-numbers k largest 2 (before lineEnd s) ∙ on_line k largest 1 s ∙ rw (on_line k largest 0 (after space s))
+      && is_number k largest (before line_end (after space (after space s)))))
+  unfolding numbers_on
+  tests = are_numbers_lem k largest 2 (before line_end s) ∙ on_line k largest 1 s ∙ rw (on_line k largest 0 (after space s))
 
-  broken : areNumbers k largest 3 (before lineEnd s) ≡ false → Broken ≡ threeNumbers k largest s
-  unfolding threeNumbers
+  broken : are_numbers k largest 3 (before line_end s) ≡ false → Broken ≡ three_numbers k largest s
+  unfolding three_numbers
   broken e = rw e
 
-  pub no-first : numberUpTo k largest space s ≡ Before.Broken → Broken ≡ threeNumbers k largest s
-  no-first e = broken (tests ∙ rw (not-up-to k largest space s e, and-false (has space s)))
+  pub no_first : number_up_to k largest space s ≡ Before.Broken → Broken ≡ three_numbers k largest s
+  no_first e = broken (tests ∙ rw (not_up_to k largest space s e, and-false (has space s)))
 
   -- the first number has a bytes
-  module _ (x a : ℕ) (e : numberUpTo k largest space s ≡ Before.Read x a) where
-    pub one_field : length s ≤ a → Broken ≡ threeNumbers k largest s
+  module _ (x a : ℕ) (e : number_up_to k largest space s ≡ Before.Read x a) where
+    pub one_field : length s ≤ a → Broken ≡ three_numbers k largest s
     one_field h =
         let l = (up_to k largest space s x a e).1 in
-        broken (tests ∙ rw (hasnt-of space s (omega (arith, l))))
+        broken (tests ∙ rw (hasnt_of space s (omega (arith, l))))
 
     -- a space follows it, and then the rest r of the text
     module _ (h : a < length s) where
@@ -50,19 +50,19 @@ module _ (k largest : ℕ) (s : List ℕ) where
       is = (cut space s a (up_to k largest space s x a e).1 h).is
 
       more :
-          areNumbers k largest 3 (before lineEnd s)
-          ≡ (has space (past s a) && is_number k largest (before space (past s a)) && is_number k largest (before lineEnd (after space (past s a))))
+          are_numbers k largest 3 (before line_end s)
+          ≡ (has space (past s a) && is_number k largest (before space (past s a)) && is_number k largest (before line_end (after space (past s a))))
       more = tests ∙ rw (is, (up_to k largest space s x a e).0.is, rest)
 
-      pub no_second : numberUpTo k largest space (past s a) ≡ Before.Broken → Broken ≡ threeNumbers k largest s
-      no_second b = broken (more ∙ rw (not-up-to k largest space (past s a) b, and-false (has space (past s a))))
+      pub no_second : number_up_to k largest space (past s a) ≡ Before.Broken → Broken ≡ three_numbers k largest s
+      no_second b = broken (more ∙ rw (not_up_to k largest space (past s a) b, and-false (has space (past s a))))
 
       -- the second number has b bytes
-      module _ (y b : ℕ) (f : numberUpTo k largest space (past s a) ≡ Before.Read y b) where
-        pub two_fields : length (past s a) ≤ b → Broken ≡ threeNumbers k largest s
+      module _ (y b : ℕ) (f : number_up_to k largest space (past s a) ≡ Before.Read y b) where
+        pub two_fields : length (past s a) ≤ b → Broken ≡ three_numbers k largest s
         two_fields h₁ =
             let l = (up_to k largest space (past s a) y b f).1 in
-            broken (more ∙ rw (hasnt-of space (past s a) (omega (arith, l))))
+            broken (more ∙ rw (hasnt_of space (past s a) (omega (arith, l))))
 
         -- a space follows it, and then the last part of the text
         module _ (h₁ : b < length (past s a)) where
@@ -72,51 +72,51 @@ module _ (k largest : ℕ) (s : List ℕ) where
           is₁ : has space (past s a) ≡ true
           is₁ = (cut space (past s a) b (up_to k largest space (past s a) y b f).1 h₁).is
 
-          last : areNumbers k largest 3 (before lineEnd s) ≡ is_number k largest (before lineEnd (past (past s a) b))
+          last : are_numbers k largest 3 (before line_end s) ≡ is_number k largest (before line_end (past (past s a) b))
           last = more ∙ rw (is₁, (up_to k largest space (past s a) y b f).0.is, rest₁)
 
-          pub no_third : numberUpTo k largest lineEnd (past (past s a) b) ≡ Before.Broken → Broken ≡ threeNumbers k largest s
-          no_third c = broken (last ∙ not-up-to k largest lineEnd (past (past s a) b) c)
+          pub no_third : number_up_to k largest line_end (past (past s a) b) ≡ Before.Broken → Broken ≡ three_numbers k largest s
+          no_third c = broken (last ∙ not_up_to k largest line_end (past (past s a) b) c)
 
           -- the third number has d bytes
-          module _ (z d : ℕ) (g : numberUpTo k largest lineEnd (past (past s a) b) ≡ Before.Read z d) where
-            pub all_three : Three x y z (a + 1 + b + 1 + d) ≡ threeNumbers k largest s
-            unfolding threeNumbers field
+          module _ (z d : ℕ) (g : number_up_to k largest line_end (past (past s a) b) ≡ Before.Read z d) where
+            pub all_three : Three x y z (a + 1 + b + 1 + d) ≡ three_numbers k largest s
+            unfolding three_numbers field
             all_three =
                 let (w₁, l₁) = up_to k largest space s x a e in
                 let (w₂, l₂) = up_to k largest space (past s a) y b f in
-                let (w₃, l₃) = up_to k largest lineEnd (past (past s a) b) z d g in
-                let o = first_on k largest 1 s (sym (are-numbers k largest 2 (before lineEnd s)) ∙ last ∙ w₃.is) in
+                let (w₃, l₃) = up_to k largest line_end (past (past s a) b) z d g in
+                let o = first_on k largest 1 s (sym (are_numbers_lem k largest 2 (before line_end s)) ∙ last ∙ w₃.is) in
                 let q = first_on k largest 0 (past s a) (rw (← rest) at o.next) in
-                let u : before lineEnd (past (past s a) b) ≡ after space (after space (before lineEnd s)) =
+                let u : before line_end (past (past s a) b) ≡ after space (after space (before line_end s)) =
                 rw (o.rest, ← rest, q.rest, rest₁)
                 in
-                let v : before space (after space (before lineEnd s)) ≡ before space (past s a) = rw (o.rest, ← rest) q.first in
-                let none = gone space (before lineEnd (past (past s a) b)) (unspaced k largest (before lineEnd (past (past s a) b)) w₃.is) in
-                let c : length (before lineEnd s) ≡ a + 1 + b + 1 + d =
-                omega (arith, o.count, q.count, ap (λ (t : List ℕ). length (before lineEnd t)) rest, ap (λ (t : List ℕ). length (before lineEnd t)) rest₁, l₁, l₂, l₃)
+                let v : before space (after space (before line_end s)) ≡ before space (past s a) = rw (o.rest, ← rest) q.first in
+                let none = gone space (before line_end (past (past s a) b)) (unspaced k largest (before line_end (past (past s a) b)) w₃.is) in
+                let c : length (before line_end s) ≡ a + 1 + b + 1 + d =
+                omega (arith, o.count, q.count, ap (λ (t : List ℕ). length (before line_end t)) rest, ap (λ (t : List ℕ). length (before line_end t)) rest₁, l₁, l₂, l₃)
                 in
                 rw (last, w₃.is, o.first, w₁.value, v, w₂.value, ← u, none, w₃.value, c)
 
 -- a text whose first line is three numbers, and one whose is not
 module _ (k largest : ℕ) (s : List ℕ) where
   pub record AreThree (x y z n : ℕ) : Type 0 where
-    pub are : areNumbers k largest 3 (before lineEnd s) ≡ true
-    pub first : decimal (field 0 (before lineEnd s)) ≡ x
-    pub second : decimal (field 1 (before lineEnd s)) ≡ y
-    pub third : decimal (field 2 (before lineEnd s)) ≡ z
-    pub count : n ≡ length (before lineEnd s)
+    pub are : are_numbers k largest 3 (before line_end s) ≡ true
+    pub first : decimal (field 0 (before line_end s)) ≡ x
+    pub second : decimal (field 1 (before line_end s)) ≡ y
+    pub third : decimal (field 2 (before line_end s)) ≡ z
+    pub count : n ≡ length (before line_end s)
 
-  pub three-are : (x y z n : ℕ) → threeNumbers k largest s ≡ Three x y z n → AreThree x y z n
-  unfolding threeNumbers
-  three-are x y z n =
-      by_cond (λ r. r ≡ Three x y z n → AreThree x y z n) (areNumbers k largest 3 (before lineEnd s))
+  pub three_are : (x y z n : ℕ) → three_numbers k largest s ≡ Three x y z n → AreThree x y z n
+  unfolding three_numbers
+  three_are x y z n =
+      by_cond (λ r. r ≡ Three x y z n → AreThree x y z n) (are_numbers k largest 3 (before line_end s))
       (λ t e. record { are = t; first = cc; second = cc; third = cc; count = cc })
       (λ t e. clash cc)
 
-  pub three-are-not : threeNumbers k largest s ≡ Broken → areNumbers k largest 3 (before lineEnd s) ≡ false
-  unfolding threeNumbers
-  three-are-not =
-      by_cond (λ r. r ≡ Broken → areNumbers k largest 3 (before lineEnd s) ≡ false) (areNumbers k largest 3 (before lineEnd s))
+  pub three_are_not : three_numbers k largest s ≡ Broken → are_numbers k largest 3 (before line_end s) ≡ false
+  unfolding three_numbers
+  three_are_not =
+      by_cond (λ r. r ≡ Broken → are_numbers k largest 3 (before line_end s) ≡ false) (are_numbers k largest 3 (before line_end s))
       (λ t e. clash cc)
       (λ t e. t)

@@ -1,33 +1,33 @@
 -- Lines of fields: document 01, "The table as text"; for any number of them docs/HANDBOOK.md, "Probing one call".
 use Rattle.std.specs.Prelude.{ℕ, zero, suc, ◌≡◌, List, [], ◌∷◌, Bool, true, cond, ◌&&◌, eqb, length}
-use Rattle.text.specs.Lines.{lineEnd, space, before, after, fieldCount, field}
+use Rattle.text.specs.Lines.{line_end, space, before, after, field_count, field}
 use Rattle.text.specs.Number.{is_number, decimal}
 use Rattle.text.specs.declared.fields.Numbers.{Numbers}
 use Rattle.text.specs.declared.fields.Numbers.TheVariants as Numbers
 
 -- whether each of the first n fields of a line is a number, of at most so many digits and at most `largest`
-unfoldable pub eachNumber : (digits largest n : ℕ) → List ℕ → Bool
-eachNumber digits largest zero l = true
-eachNumber digits largest (suc n) l = is_number digits largest (field 0 l) && eachNumber digits largest n (after space l)
+unfoldable pub each_number : (digits largest n : ℕ) → List ℕ → Bool
+each_number digits largest zero l = true
+each_number digits largest (suc n) l = is_number digits largest (field 0 l) && each_number digits largest n (after space l)
 
 -- whether a line is n such numbers: "Between two fields stands one space"
-unfoldable pub areNumbers : (digits largest n : ℕ) → List ℕ → Bool
-areNumbers digits largest n l = eqb (fieldCount l) n && eachNumber digits largest n l
+unfoldable pub are_numbers : (digits largest n : ℕ) → List ℕ → Bool
+are_numbers digits largest n l = eqb (field_count l) n && each_number digits largest n l
 
 -- the three numbers that the first line of a text is, and how many bytes the line has: without its byte 10, or all of the text where there is none;
 -- a line that is not three numbers is Broken
-unfoldable pub threeNumbers : (digits largest : ℕ) → List ℕ → Numbers
-threeNumbers digits largest s =
-    let l = before lineEnd s in
-    cond (areNumbers digits largest 3 l) (Numbers.Three (decimal (field 0 l)) (decimal (field 1 l)) (decimal (field 2 l)) (length l)) Numbers.Broken
+unfoldable pub three_numbers : (digits largest : ℕ) → List ℕ → Numbers
+three_numbers digits largest s =
+    let l = before line_end s in
+    cond (are_numbers digits largest 3 l) (Numbers.Three (decimal (field 0 l)) (decimal (field 1 l)) (decimal (field 2 l)) (length l)) Numbers.Broken
 
 -- an array whose first entries become the numbers that a line begins with, up to the first field that is none; the others stay
-unfoldable pub numbersInto : (digits largest : ℕ) → (line array : List ℕ) → List ℕ
-numbersInto digits largest l [] = []
-numbersInto digits largest l (x ∷ a) =
-    cond (is_number digits largest (field 0 l)) (decimal (field 0 l) ∷ numbersInto digits largest (after space l) a) (x ∷ a)
+unfoldable pub numbers_into : (digits largest : ℕ) → (line array : List ℕ) → List ℕ
+numbers_into digits largest l [] = []
+numbers_into digits largest l (x ∷ a) =
+    cond (is_number digits largest (field 0 l)) (decimal (field 0 l) ∷ numbers_into digits largest (after space l) a) (x ∷ a)
 
 -- what filling an array from a line answers, whether the line is as many numbers as the array has entries, and the array after it
 pub record FilledFromLine (digits largest : ℕ) (line array after : List ℕ) (r : Bool) : Type 0 where
-  pub is : r ≡ areNumbers digits largest (length array) line
-  pub filled : after ≡ numbersInto digits largest line array
+  pub is : r ≡ are_numbers digits largest (length array) line
+  pub filled : after ≡ numbers_into digits largest line array

@@ -1,8 +1,8 @@
 -- A text put together in an array, one part after the other, and lines of numbers (document 01, "The table as text").
 use Rattle.std.specs.Prelude.{ℕ, ◌+◌, min, max, ◌≡◌, List, [], ◌∷◌, ◌++◌, length, take}
 use Rattle.std.proofs.lemmas.List.Edits.{sets}
-use Rattle.text.specs.Lines.{lineEnd, space}
-use Rattle.text.specs.Number.{decimalText}
+use Rattle.text.specs.Lines.{line_end, space}
+use Rattle.text.specs.Number.{decimal_text}
 
 -- an array whose bytes from a place on are those of a text, as far as there is room: a byte stored past the end changes nothing
 unfoldable pub overwritten : (array : List ℕ) (place : ℕ) (text : List ℕ) → List ℕ
@@ -10,13 +10,13 @@ overwritten array place text = sets array place text
 
 -- how many bytes of an array are used, once so many more were put. Above the array's size it marks that some had no room: one more than the size,
 -- or what it was where it was above the size already; and so it stays whatever is put later
-unfoldable pub usedAfter : (size used more : ℕ) → ℕ
-usedAfter size used more = min (used + more) (max used (size + 1))
+unfoldable pub used_after : (size used more : ℕ) → ℕ
+used_after size used more = min (used + more) (max used (size + 1))
 
 -- what putting a text after the first `used` bytes does to an array, and what it answers
 pub record Put (before : List ℕ) (used : ℕ) (text after : List ℕ) (r : ℕ) : Type 0 where
   pub array : after ≡ overwritten before used text
-  pub count : r ≡ usedAfter (length before) used (length text)
+  pub count : r ≡ used_after (length before) used (length text)
 
 -- the first r bytes of the array are the text
 pub record Holds (text array : List ℕ) (r : ℕ) : Type 0 where
@@ -24,19 +24,19 @@ pub record Holds (text array : List ℕ) (r : ℕ) : Type 0 where
   pub count : r ≡ length text
 
 -- the numbers of a line after its first: a space before each, and byte 10 after the last
-unfoldable pub furtherNumbers : List ℕ → List ℕ
-furtherNumbers [] = lineEnd ∷ []
-furtherNumbers (n ∷ ns) = space ∷ decimalText n ++ furtherNumbers ns
+unfoldable pub further_numbers : List ℕ → List ℕ
+further_numbers [] = line_end ∷ []
+further_numbers (n ∷ ns) = space ∷ decimal_text n ++ further_numbers ns
 
 -- a line of numbers, with a space between them as in document 01's examples; "Each printed line ends with byte 10"
-unfoldable pub numbersLine : List ℕ → List ℕ
-numbersLine [] = lineEnd ∷ []
-numbersLine (n ∷ ns) = decimalText n ++ furtherNumbers ns
+unfoldable pub numbers_line : List ℕ → List ℕ
+numbers_line [] = line_end ∷ []
+numbers_line (n ∷ ns) = decimal_text n ++ further_numbers ns
 
 -- the bytes of "REFUSED" and a space: "A refused table prints `REFUSED`, a space and the refusal number"
-abbrev pub refusedWord : List ℕ
-refusedWord = 82 ∷ 69 ∷ 70 ∷ 85 ∷ 83 ∷ 69 ∷ 68 ∷ 32 ∷ []
+abbrev pub refused_word : List ℕ
+refused_word = 82 ∷ 69 ∷ 70 ∷ 85 ∷ 83 ∷ 69 ∷ 68 ∷ 32 ∷ []
 
 -- the line that tells a refusal number
-unfoldable pub refusedLine : (number : ℕ) → List ℕ
-refusedLine number = refusedWord ++ numbersLine (number ∷ [])
+unfoldable pub refused_line : (number : ℕ) → List ℕ
+refused_line number = refused_word ++ numbers_line (number ∷ [])

@@ -1,7 +1,7 @@
 // Bytes of a text: where one is, the field before it, what a text begins with, and whether two texts are the same.
 ghost use Rattle.std.specs.Prelude.{◌≡◌, length};
 ghost use Rattle.text.specs.Lines.{before};
-ghost use Rattle.text.specs.Words.{sameBytes, beginsWith};
+ghost use Rattle.text.specs.Words.{same_bytes, begins_with};
 
 // The same as `find`, one byte in a turn: for the last bytes of a text.
 fn find_one_by_one(text: &[u8], byte: u8) -> usize
@@ -50,7 +50,7 @@ pub fn field_up_to(text: &[u8], end: u8) -> &[u8]
 
 // Whether two texts have the same bytes. All of them are compared, without a way out at the first that differ, so that the compiler can take several at once.
 pub fn same(a: &[u8], b: &[u8]) -> bool
-    ensures { result ≡ sameBytes a.now b.now }
+    ensures { result ≡ same_bytes a.now b.now }
 {
     if a.len() != b.len() {
         return false;
@@ -66,7 +66,7 @@ pub fn same(a: &[u8], b: &[u8]) -> bool
 
 // Whether a text begins with a word.
 pub fn begins_with(text: &[u8], word: &[u8]) -> bool
-    ensures { result ≡ beginsWith word.now text.now }
+    ensures { result ≡ begins_with word.now text.now }
 {
     let length = word.len();
     if text.len() < length {

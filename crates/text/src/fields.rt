@@ -1,6 +1,6 @@
 // Lines of numbers, with one space between them.
 ghost use Rattle.std.specs.Prelude.{◌≡◌};
-ghost use Rattle.text.specs.Fields.{threeNumbers, FilledFromLine};
+ghost use Rattle.text.specs.Fields.{three_numbers, FilledFromLine};
 
 use crate::number;
 use crate::number::Before;
@@ -19,7 +19,7 @@ pub enum Numbers {
 
 // The numbers of the first line of a text, which ends before the first byte 10 or where the text does.
 pub fn three_numbers(text: &[u8], digits: usize, largest: u32) -> Numbers
-    ensures { result ≡ threeNumbers digits largest text.now }
+    ensures { result ≡ three_numbers digits largest text.now }
 {
     let Before::Read { number: a, length } = number::number_up_to(text, b' ', digits, largest)
     else {

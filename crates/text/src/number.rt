@@ -1,6 +1,6 @@
 // Numbers of a text, in base ten, with a limit of digits and a largest value.
 ghost use Rattle.std.specs.Prelude.{◌≡◌};
-ghost use Rattle.text.specs.Number.{isDigit, number_of, numberUpTo, numberAfter};
+ghost use Rattle.text.specs.Number.{is_digit, number_of, number_up_to, number_after};
 
 use crate::bytes;
 
@@ -20,7 +20,7 @@ pub enum Before {
 
 // Whether a byte is a decimal digit.
 fn is_digit(byte: u8) -> bool
-    ensures { result ≡ isDigit byte }
+    ensures { result ≡ is_digit byte }
 {
     if byte < b'0' {
         return false;
@@ -30,7 +30,7 @@ fn is_digit(byte: u8) -> bool
 
 // The number that stands before the first byte `end` of a text, or is all of the text where there is none.
 pub fn number_up_to(text: &[u8], end: u8, digits: usize, largest: u32) -> Before
-    ensures { result ≡ numberUpTo digits largest end text.now }
+    ensures { result ≡ number_up_to digits largest end text.now }
 {
     let mut number: u32 = 0;
     let mut i: usize = 0;
@@ -78,7 +78,7 @@ pub fn number_of(field: &[u8], digits: usize, largest: u32) -> Number
 
 // The number of a line that is a word and one number: the word has its space.
 pub fn number_after(line: &[u8], word: &[u8], digits: usize, largest: u32) -> Number
-    ensures { result ≡ numberAfter digits largest word.now line.now }
+    ensures { result ≡ number_after digits largest word.now line.now }
 {
     if !bytes::begins_with(line, word) {
         return Number::Broken;

@@ -14,8 +14,8 @@ invariant-loop input₀ output n₀ opening₀ left₀ input n opening left = le
 abbrev decreases-loop : tie.decreases-loop
 decreases-loop input₀ output n₀ opening₀ left₀ input n opening left = left
 
-pub print-spec : {M : Type 1} → statement M
-print-spec =
+pub print_spec : {M : Type 1} → statement M
+print_spec =
     tie.close
     (tie.spec
     invariant-loop

@@ -4,10 +4,10 @@ use native.Mathlib.Omega.{arith}
 use mathlib.Core.Path.{ap, ◌∙◌}
 use borrow.Author.Rules.{rules}
 use lib.ListN.{length}
-use Rattle.auditing.specs.Audit.{auditValuesOf}
+use Rattle.auditing.specs.Audit.{audit_values_of}
 use Rattle.auditing.specs.Auditor.{fed, answer_of}
 use Rattle.auditing.specs.declared.auditor.Auditor.{Auditor}
-use Rattle.auditing.proofs.FedAsWhole.{fed-log}
+use Rattle.auditing.proofs.FedAsWhole.{fed_log}
 use Rattle.auditing.proofs.audit.Statement.{statement}
 use Rattle.auditing.proofs.audit.Tie as tie
 
@@ -17,10 +17,10 @@ returns c =
     let s = f.before in
     let log = s.before.before.args.log.now in
     let few : length log < 2 ^ 64 = omega arith in
-    ap auditValuesOf (c.conclude.ensures ∙ ap answer_of (f.feed.ensures ∙ ap (λ (a : Auditor). fed a log) s.start.ensures)) ∙ fed-log _ _ _ few
+    ap audit_values_of (c.conclude.ensures ∙ ap answer_of (f.feed.ensures ∙ ap (λ (a : Auditor). fed a log) s.start.ensures)) ∙ fed_log _ _ _ few
 
-pub audit-spec : {M : Type 1} → statement M
-audit-spec =
+pub audit_spec : {M : Type 1} → statement M
+audit_spec =
     tie.close
     (tie.spec
     (λ c κs. search rules)

@@ -2,18 +2,18 @@
 use Prim.Native.Nat.{◌-◌, ◌*◌, ◌^◌, ◌≤◌}
 use native.Mathlib.Omega.{arith}
 use borrow.Author.Rules.{rules}
-use Rattle.tasks.specs.Limits.{maxTasks}
+use Rattle.tasks.specs.Limits.{max_tasks}
 use Rattle.bench_slots.proofs.cores_number.Statement.{statement}
 use Rattle.bench_slots.proofs.cores_number.Tie as tie
 
 abbrev invariant-loop : tie.invariant-loop
-invariant-loop assigned number₀ running₀ i₀ number running i = (i ≤ maxTasks) × (running ≤ i * 2 ^ 32) × (number ≤ i * 2 ^ 37)
+invariant-loop assigned number₀ running₀ i₀ number running i = (i ≤ max_tasks) × (running ≤ i * 2 ^ 32) × (number ≤ i * 2 ^ 37)
 
 abbrev decreases-loop : tie.decreases-loop
-decreases-loop assigned number₀ running₀ i₀ number running i = maxTasks - i
+decreases-loop assigned number₀ running₀ i₀ number running i = max_tasks - i
 
-pub cores-number-spec : {M : Type 1} → statement M
-cores-number-spec =
+pub cores_number_spec : {M : Type 1} → statement M
+cores_number_spec =
     tie.close
     (tie.spec
     invariant-loop

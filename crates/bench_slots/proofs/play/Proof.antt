@@ -2,7 +2,7 @@
 use Prim.Native.Nat.{◌+◌, ◌-◌, ◌*◌, ◌≤◌}
 use native.Mathlib.Omega.{arith}
 use borrow.Author.Rules.{rules}
-use Rattle.tasks.specs.Limits.{maxTasks}
+use Rattle.tasks.specs.Limits.{max_tasks}
 use Rattle.bench_slots.proofs.play.Statement.{statement}
 use Rattle.bench_slots.proofs.play.Tie as tie
 
@@ -10,10 +10,10 @@ abbrev invariant-loop : tie.invariant-loop
 invariant-loop count slots table after₀ sum₀ number₀ next₀ after sum number next = (number ≤ slots) × (next ≤ count)
 
 abbrev decreases-loop : tie.decreases-loop
-decreases-loop count slots table after₀ sum₀ number₀ next₀ after sum number next = (maxTasks + 1) * (slots - number) + (count - next)
+decreases-loop count slots table after₀ sum₀ number₀ next₀ after sum number next = (max_tasks + 1) * (slots - number) + (count - next)
 
-pub play-spec : {M : Type 1} → statement M
-play-spec =
+pub play_spec : {M : Type 1} → statement M
+play_spec =
     tie.close
     (tie.spec
     invariant-loop

@@ -16,8 +16,8 @@ returns-2 c =
     let p = c.before.before in
     rw p.before.before.before.enum-told2.given.1 p.put2.ensures
 
-pub put-header-spec : {M : Type 1} → statement M
-put-header-spec =
+pub put_header_spec : {M : Type 1} → statement M
+put_header_spec =
     tie.close
     (tie.spec
     (λ c. search rules)

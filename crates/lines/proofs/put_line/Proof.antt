@@ -1,17 +1,17 @@
 -- `put_line` meets its contract: it puts the numbers of the line.
-use Rattle.lines.specs.Printed.{verdictLine}
+use Rattle.lines.specs.Printed.{verdict_line}
 use borrow.Author.Rules.{rules}
 use Rattle.lines.proofs.put_line.Statement.{statement}
 use Rattle.lines.proofs.put_line.Tie as tie
 
 returns : tie.Need-returns
-unfolding verdictLine
+unfolding verdict_line
 returns c =
     let n = c.before.before in
     rw n.before.before.before.line-numbers.ensures at n.put-numbers.ensures
 
-pub put-line-spec : {M : Type 1} → statement M
-put-line-spec =
+pub put_line_spec : {M : Type 1} → statement M
+put_line_spec =
     tie.close
     (tie.spec
     (λ c κs. search rules)

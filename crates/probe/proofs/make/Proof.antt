@@ -1,9 +1,9 @@
 -- `make` meets its contract: the line of the answer, and those of the machine after the call.
 use borrow.Author.Rules.{rules}
-use Rattle.script.specs.Output.{answerRoom}
-use Rattle.script.proofs.OutputLaws.{within-then}
+use Rattle.script.specs.Output.{answer_room}
+use Rattle.script.proofs.OutputLaws.{within_then}
 use Rattle.script.proofs.FewBytes.{few_bytes}
-use Rattle.probe.specs.Output.{machineRoom}
+use Rattle.probe.specs.Output.{machine_room}
 use Rattle.probe.specs.Printed.{shown}
 use Rattle.probe.proofs.make.Statement.{statement}
 use Rattle.probe.proofs.make.Tie as tie
@@ -15,7 +15,7 @@ returns c =
     let a = p.before.before.before.before.before in
     let s = a.before.before in
     rw (← s.step.ensures)
-    (within-then answerRoom machineRoom _ _ _ _ _ _ _ _
+    (within_then answer_room machine_room _ _ _ _ _ _ _ _
     (record { put = a.put-answer.ensures; few = rw s.step.ensures (few_bytes _ _) })
     p.put-machine.ensures)
 

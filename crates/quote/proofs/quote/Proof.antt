@@ -1,5 +1,5 @@
 -- `quote` meets its contract: there is room for what is put.
-use Rattle.quote.proofs.PrintedFew.{printed-held}
+use Rattle.quote.proofs.PrintedFew.{printed_held_lem}
 use borrow.Author.Rules.{rules}
 use Rattle.quote.proofs.quote.Statement.{statement}
 use Rattle.quote.proofs.quote.Tie as tie
@@ -7,10 +7,10 @@ use Rattle.quote.proofs.quote.Tie as tie
 returns : tie.Need-returns
 returns c =
     let p = c.before.before in
-    printed-held _ _ _ _ p.before.before.before.before.requires p.put-printed.ensures
+    printed_held_lem _ _ _ _ p.before.before.before.before.requires p.put-printed.ensures
 
-pub quote-spec : {M : Type 1} → statement M
-quote-spec = tie.close
+pub quote_spec : {M : Type 1} → statement M
+quote_spec = tie.close
     (tie.spec
     (λ c κs. search rules)
     (λ c. search rules)

@@ -11,45 +11,45 @@ use Rattle.judge.specs.Judge.{Values, values_of, judged}
 use Rattle.ranges.specs.declared.corner.Corner.TheVariants.{Dearest}
 use Rattle.ranges.specs.declared.table.RangedTable.{RangedTable}
 use Rattle.ranges.specs.declared.Quote.{Quote}
-use Rattle.ranges.specs.Ranges.{cornerTable}
-use Rattle.ranges.specs.Check.{rangesChecked}
-use Rattle.ranges.specs.Quote.{quoteValuesOf, quoted}
+use Rattle.ranges.specs.Ranges.{corner_table}
+use Rattle.ranges.specs.Check.{ranges_checked}
+use Rattle.ranges.specs.Quote.{quote_values_of, quoted}
 use Rattle.ranges.specs.Promise.{Says, QuotePromise}
-use Rattle.ranges.proofs.QuoteLaws.{Given, refused-is, all-is, some_is, none_is}
-use Rattle.ranges.proofs.QuoteTrue.{quote-true}
+use Rattle.ranges.proofs.QuoteLaws.{Given, refused_is_lem, all_is, some_is, none_is}
+use Rattle.ranges.proofs.QuoteTrue.{quote_true}
 use Rattle.ranges.proofs.judge_ranges.Statement.{statement}
 use Rattle.ranges.proofs.judge_ranges.Tie as tie
 
 -- an answer with the values of the quote is true
-answered : (answer : Quote) (r : RangedTable) (m : ℕ) → quoteValuesOf answer ≡ quoted r m → (quoteValuesOf answer ≡ quoted r m) × Says answer r m
+answered : (answer : Quote) (r : RangedTable) (m : ℕ) → quote_values_of answer ≡ quoted r m → (quote_values_of answer ≡ quoted r m) × Says answer r m
 unfolding QuotePromise
-answered answer r m e = (e, quote-true answer r m e)
+answered answer r m e = (e, quote_true answer r m e)
 
 -- what was asked of a verdict on the table at a corner
 verdict-at : {t corner : Table} (m : ℕ) (v : Verdict) {admits is : Bool} →
     t ≡ corner → values_of v ≡ judged t m → admits ≡ (values_of v).admits → admits ≡ is →
     (judged corner m).admits ≡ is
-verdict-at m v at-corner judges asked told =
-    sym (ap (λ (values : Values). values.admits) judges ∙ ap (λ (table : Table). (judged table m).admits) at-corner) ∙ sym asked ∙ told
+verdict-at m v at_corner judges asked told =
+    sym (ap (λ (values : Values). values.admits) judges ∙ ap (λ (table : Table). (judged table m).admits) at_corner) ∙ sym asked ∙ told
 
 returns : tie.Need-returns
 returns c =
     let d = c.before in
-    answered _ _ _ (refused-is _ _ _ _ (sym d.before.before.check-ranges.ensures ∙ d.outcome.given.1))
+    answered _ _ _ (refused_is_lem _ _ _ _ (sym d.before.before.check-ranges.ensures ∙ d.outcome.given.1))
 
 -- past the refusals
-passed : (c : tie.After-enum-told) → let a = c.before.before.before.args in rangesChecked a.table a.cores ≡ Done
+passed : (c : tie.After-enum-told) → let a = c.before.before.before.args in ranges_checked a.table a.cores ≡ Done
 passed c = sym c.before.before.check-ranges.ensures ∙ c.enum_told.given.1
 
 returns-2 : tie.Need-returns-2
 returns-2 c =
     let d = c.before in
     let j = d.before in
-    answered _ _ _ (all-is _ _ (passed j.before.before) (verdict-at _ _ j.before.at.ensures j.judge.ensures d.admits.ensures c.if1.taken))
+    answered _ _ _ (all_is _ _ (passed j.before.before) (verdict-at _ _ j.before.at.ensures j.judge.ensures d.admits.ensures c.if1.taken))
 
 -- the verdict at the dearest corner, where the cheapest is judged too
-at-dearest : (c : tie.After-at2) → let a = c.before.before.before.before.before.before.before.before.args in (judged (cornerTable Dearest a.table) a.cores).admits ≡ false
-at-dearest c =
+at_dearest : (c : tie.After-at2) → let a = c.before.before.before.before.before.before.before.before.args in (judged (corner_table Dearest a.table) a.cores).admits ≡ false
+at_dearest c =
     let d = c.before.before in
     let j = d.before in
     verdict-at _ _ j.before.at.ensures j.judge.ensures d.admits.ensures c.before.if1.left
@@ -63,8 +63,8 @@ both {any} c told =
     let k = j.before in
     record {
       checks = passed k.before.before.before.before.before;
-      at-dearest = at-dearest k;
-      at-cheapest = verdict-at _ _ k.at2.ensures j.judge2.ensures c.admits2.ensures told;
+      at_dearest = at_dearest k;
+      at_cheapest = verdict-at _ _ k.at2.ensures j.judge2.ensures c.admits2.ensures told;
     }
 
 returns-3 : tie.Need-returns-3
@@ -73,8 +73,8 @@ returns-3 c = answered _ _ _ (some_is _ _ (both c.before c.if2.taken))
 returns-4 : tie.Need-returns-4
 returns-4 c = answered _ _ _ (none_is _ _ (both c.before c.if2.left))
 
-pub judge-ranges-spec : {M : Type 1} → statement M
-judge-ranges-spec =
+pub judge_ranges_spec : {M : Type 1} → statement M
+judge_ranges_spec =
     tie.close
     (tie.spec
     (λ c κs. search rules)

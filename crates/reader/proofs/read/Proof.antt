@@ -1,8 +1,8 @@
 -- `read` meets its contract: the table of the numbers that were read, or the refusal.
 use mathlib.Core.Path.{refl}
 use borrow.Author.Rules.{rules}
-use Rattle.tasks.specs.Table.{zeroTask, emptyTable}
-use Rattle.tasks.specs.Numbers.{periodsOf, budgetsOf, deadlinesOf}
+use Rattle.tasks.specs.Table.{zero_task, empty_table}
+use Rattle.tasks.specs.Numbers.{periods_of, budgets_of, deadlines_of}
 use Rattle.reader.proofs.NumbersRead.{table_is, refusal_is}
 use Rattle.reader.proofs.read.Statement.{statement}
 use Rattle.reader.proofs.read.Tie as tie
@@ -18,7 +18,7 @@ returns-2 c =
     refusal_is _ _ _ _ _ n.number.given.1 n.before.before.fill.ensures.0 _ c.refused-reading.ensures
 
 fill-requires : tie.Need-fill-requires
-unfolding emptyTable zeroTask periodsOf budgetsOf deadlinesOf
+unfolding empty_table zero_task periods_of budgets_of deadlines_of
 fill-requires c κs = (refl, refl, refl)
 
 pub read_spec : {M : Type 1} → statement M

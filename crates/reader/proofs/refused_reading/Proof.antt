@@ -8,8 +8,8 @@ returns : tie.Need-returns
 unfolding refused
 returns c = rw c.empty.ensures
 
-pub refused-reading-spec : {M : Type 1} → statement M
-refused-reading-spec = tie.close
+pub refused_reading_spec : {M : Type 1} → statement M
+refused_reading_spec = tie.close
     (tie.spec
     (λ c κs. search rules)
     returns)

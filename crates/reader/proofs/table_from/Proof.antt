@@ -5,54 +5,54 @@ use mathlib.Core.Path.{◌≡◌, refl, sym, ap}
 use mathlib.Core.List.{List}
 use lib.ListN.{replicate}
 use Rattle.laws.specs.Lists.{replaced}
-use Rattle.laws.proofs.Replaced.{replaced-more, replaced-at, length-replaced}
+use Rattle.laws.proofs.Replaced.{replaced_more, replaced_at, length_replaced}
 use Rattle.tasks.specs.declared.task.Task.{Task}
 use Rattle.tasks.specs.declared.table.Table.{Table}
-use Rattle.tasks.specs.Limits.{maxTasks}
-use Rattle.tasks.specs.Table.{zeroTask, emptyTable}
-use Rattle.tasks.specs.Numbers.{tasksFrom, tableFrom}
+use Rattle.tasks.specs.Limits.{max_tasks}
+use Rattle.tasks.specs.Table.{zero_task, empty_table}
+use Rattle.tasks.specs.Numbers.{tasks_from, table_from}
 use Rattle.tasks.proofs.Numbers.{entry_at, from_entries}
 use Rattle.reader.proofs.table_from.Statement.{statement}
 use Rattle.reader.proofs.table_from.Tie as tie
 
 -- the first i entries of the lists, and zeros after them
 abbrev made : (periods budgets deadlines : List ℕ) (i : ℕ) → List Task
-made periods budgets deadlines i = replaced i (entry_at periods budgets deadlines) (replicate maxTasks zeroTask)
+made periods budgets deadlines i = replaced i (entry_at periods budgets deadlines) (replicate max_tasks zero_task)
 
-all_made : (periods budgets deadlines : List ℕ) → made periods budgets deadlines maxTasks ≡ tasksFrom periods budgets deadlines
+all_made : (periods budgets deadlines : List ℕ) → made periods budgets deadlines max_tasks ≡ tasks_from periods budgets deadlines
 all_made periods budgets deadlines =
     let entry = entry_at periods budgets deadlines in
-    let zeros = replicate maxTasks zeroTask in
+    let zeros = replicate max_tasks zero_task in
     sym
-    (from_entries periods budgets deadlines (made periods budgets deadlines maxTasks) (length-replaced entry zeros maxTasks)
-    (λ i h. replaced-at entry zeros zeroTask maxTasks i h h))
+    (from_entries periods budgets deadlines (made periods budgets deadlines max_tasks) (length_replaced entry zeros max_tasks)
+    (λ i h. replaced_at entry zeros zero_task max_tasks i h h))
 
 abbrev invariant-loop : tie.invariant-loop
 invariant-loop count periods budgets deadlines table₀ i₀ table i =
-    (i ≤ maxTasks) × (table.count ≡ count) × (table.tasks ≡ made periods budgets deadlines i)
+    (i ≤ max_tasks) × (table.count ≡ count) × (table.tasks ≡ made periods budgets deadlines i)
 
 abbrev decreases-loop : tie.decreases-loop
-decreases-loop count periods budgets deadlines table₀ i₀ table i = maxTasks - i
+decreases-loop count periods budgets deadlines table₀ i₀ table i = max_tasks - i
 
 loop-holds : tie.Need-loop-init invariant-loop decreases-loop
-unfolding emptyTable replaced
+unfolding empty_table replaced
 loop-holds c = (omega arith, refl, ap (λ (t : Table). t.tasks) c.empty.ensures)
 
 loop-again : tie.Need-loop-preserved invariant-loop decreases-loop
 loop-again c =
     let l = c.before.before.before.before in
-    (omega (arith, c.before.before.before.loop-test.true), l.loop.invariant.1, replaced-more _ _ _ l.loop.invariant.2 refl)
+    (omega (arith, c.before.before.before.loop-test.true), l.loop.invariant.1, replaced_more _ _ _ l.loop.invariant.2 refl)
 
 returns : tie.Need-returns invariant-loop decreases-loop
-unfolding tableFrom
+unfolding table_from
 returns c =
     let l = c.before in
     let a = l.before.before.args in
-    let whole : l.loop.i ≡ maxTasks = omega (arith, l.loop.invariant.0, c.loop-test.false) in
+    let whole : l.loop.i ≡ max_tasks = omega (arith, l.loop.invariant.0, c.loop-test.false) in
     rw (← l.loop.invariant.1, ← all_made a.periods.now a.budgets.now a.deadlines.now, ← whole, ← l.loop.invariant.2)
 
-pub table-from-spec : {M : Type 1} → statement M
-table-from-spec =
+pub table_from_spec : {M : Type 1} → statement M
+table_from_spec =
     tie.close
     (tie.spec
     invariant-loop

@@ -6,38 +6,38 @@ use mathlib.Core.Path.{◌≡◌, sym, ◌∙◌}
 use borrow.Author.Rules.{rules}
 use lib.ListN.{length, take}
 use lib.Seq.{length-take-le}
-use Rattle.laws.proofs.Parts.{from-length}
-use Rattle.text.proofs.Putting.{put-size}
+use Rattle.laws.proofs.Parts.{from_length}
+use Rattle.text.proofs.Putting.{put_size}
 use Rattle.script.specs.declared.calls.CallLine.TheVariants.{Read}
 use Rattle.script.specs.Calls.{call_of}
-use Rattle.replay.specs.Script.{callRoom}
-use Rattle.replay.proofs.Playing.{answered, Playing, play-none, play-all, not-ended, no_call, shorter, play-more}
+use Rattle.replay.specs.Script.{call_room}
+use Rattle.replay.proofs.Playing.{answered, Playing, play_none, play_all, not_ended_lem, no_call, shorter, play_more}
 use Rattle.replay.proofs.play.Statement.{statement}
 use Rattle.replay.proofs.play.Tie as tie
 
 abbrev invariant-loop : tie.invariant-loop
 invariant-loop text machine₀ first output₀ rest₀ line₀ used₀ machine output rest line used =
-    Playing output₀ (answered machine₀ first text) output used machine line rest (callRoom * length text) × (line + length rest ≤ first + length text)
+    Playing output₀ (answered machine₀ first text) output used machine line rest (call_room * length text) × (line + length rest ≤ first + length text)
 
 abbrev decreases-loop : tie.decreases-loop
 decreases-loop text machine₀ first output₀ rest₀ line₀ used₀ machine output rest line used = length rest
 
 -- the array keeps its length
 kept : (c : tie.At-loop invariant-loop decreases-loop) → length c.loop.output ≡ length c.before.before.before.args.output.now
-kept c = put-size _ _ _ _ _ c.loop.invariant.0.left.put
+kept c = put_size _ _ _ _ _ c.loop.invariant.0.left.put
 
 loop-holds : tie.Need-loop-init invariant-loop decreases-loop
-loop-holds c = (play-none _ _ _ _, omega arith)
+loop-holds c = (play_none _ _ _ _, omega arith)
 
 same_length : tie.Need-same-length invariant-loop decreases-loop
-same_length c = let b = c.before.before in put-size _ _ _ _ _ b.put-bad-line.ensures.put ∙ kept b.before.before.before.before.before
+same_length c = let b = c.before.before in put_size _ _ _ _ _ b.put-bad-line.ensures.put ∙ kept b.before.before.before.before.before
 
 returns : tie.Need-returns invariant-loop decreases-loop
 returns c =
     let b = c.before.before in
     let t = b.before.before in
     let l = t.before.before in
-    not-ended _ _ _ _ _ _ _ _ l.before.loop.invariant.0 _ _ b.put-bad-line.ensures _ t.before.find.ensures l.loop-test.true t.if1.true
+    not_ended_lem _ _ _ _ _ _ _ _ l.before.loop.invariant.0 _ _ b.put-bad-line.ensures _ t.before.find.ensures l.loop-test.true t.if1.true
 
 slice-aggregate-call-line : tie.Need-slice-aggregate-call-line invariant-loop decreases-loop
 slice-aggregate-call-line c = sym (length-take-le _ _ (le_of_lt c.before.if1.false))
@@ -57,7 +57,7 @@ call-is c = sym c.before.before.call_line.ensures ∙ c.call.given.1
 same-length-2 : tie.Need-same-length-2 invariant-loop decreases-loop
 same-length-2 c =
     let b = c.before.before in
-    put-size _ _ _ _ _ b.put-bad-line2.ensures.put ∙ kept (at-line b.before.before.before.before.before.before)
+    put_size _ _ _ _ _ b.put-bad-line2.ensures.put ∙ kept (at-line b.before.before.before.before.before.before)
 
 returns-2 : tie.Need-returns-2 invariant-loop decreases-loop
 returns-2 c =
@@ -103,19 +103,19 @@ loop-again c =
     let a = c.before.before.before.before in
     let t = a.before.before in (
       rw t.step.ensures
-          (play-more _ _ _ _ _ _ _ _ l.loop.inv.0 _ e.before.find.ensures e.if1.left _ (call-is k) _ _
+          (play_more _ _ _ _ _ _ _ _ l.loop.inv.0 _ e.before.find.ensures e.if1.left _ (call-is k) _ _
           (rw t.step.ensures at a.put-answer.ensures)),
-      omega (arith, l.loop.inv.1, e.if1.left, from-length l.loop.rest.now (e.before.find.result + 1)),
+      omega (arith, l.loop.inv.1, e.if1.left, from_length l.loop.rest.now (e.before.find.result + 1)),
     )
 
 same-length-3 : tie.Need-same-length-3 invariant-loop decreases-loop
 same-length-3 c = kept c.before
 
 returns-3 : tie.Need-returns-3 invariant-loop decreases-loop
-returns-3 c = play-all _ _ _ _ _ _ _ _ c.before.loop.invariant.0 c.loop-test.false
+returns-3 c = play_all _ _ _ _ _ _ _ _ c.before.loop.invariant.0 c.loop-test.false
 
-pub play-spec : {M : Type 1} → statement M
-play-spec =
+pub play_spec : {M : Type 1} → statement M
+play_spec =
     tie.close
     (tie.spec
     invariant-loop

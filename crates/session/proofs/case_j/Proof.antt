@@ -5,33 +5,33 @@ use borrow.Author.Rules.{rules}
 use lib.ListN.{set}
 use Rattle.tasks.specs.declared.task.Task.{Task}
 use Rattle.tasks.specs.declared.table.Table.{Table}
-use Rattle.tasks.specs.Table.{emptyTable}
+use Rattle.tasks.specs.Table.{empty_table}
 use Rattle.tasks.specs.Written.{task, table_of}
 use Rattle.machine.proofs.Computing.{computing}
-use Rattle.session.specs.Printed.{caseJ}
-use Rattle.session.proofs.Playing.{session-lines}
+use Rattle.session.specs.Printed.{case_j}
+use Rattle.session.proofs.Playing.{session_lines}
 use Rattle.session.proofs.case_j.Statement.{statement}
 use Rattle.session.proofs.case_j.Tie as tie
 
 -- the table that the code makes
 table_is :
-    (e : Table) (t₁ t₂ t₃ : Task) → e ≡ emptyTable → t₁ ≡ task 6 2 3 → t₂ ≡ task 6 2 3 → t₃ ≡ task 6 5 6
+    (e : Table) (t₁ t₂ t₃ : Task) → e ≡ empty_table → t₁ ≡ task 6 2 3 → t₂ ≡ task 6 2 3 → t₃ ≡ task 6 5 6
     → ◌≡◌ {A = Table} (record { count = 3; tasks = set (set (set e.tasks 0 t₁) 1 t₂) 2 t₃ }) (table_of (task 6 2 3 ∷ task 6 2 3 ∷ task 6 5 6 ∷ []))
 unfolding computing
 table_is e t₁ t₂ t₃ p q₁ q₂ q₃ = rw (p, q₁, q₂, q₃)
 
 returns : tie.Need-returns
-unfolding caseJ
+unfolding case_j
 returns c =
     let s = c.before.before in
     let t₃ = s.before in
     let t₂ = t₃.before in
     let t₁ = t₂.before in
-    session-lines (task 6 2 3 ∷ task 6 2 3 ∷ task 6 5 6 ∷ []) 2 6 _ _ _ c.released.ensures s.start.ensures.is
+    session_lines (task 6 2 3 ∷ task 6 2 3 ∷ task 6 5 6 ∷ []) 2 6 _ _ _ c.released.ensures s.start.ensures.is
     (table_is _ _ _ _ t₁.before.empty.ensures t₁.task.ensures t₂.task2.ensures t₃.task3.ensures)
 
-pub case-j-spec : {M : Type 1} → statement M
-case-j-spec =
+pub case_j_spec : {M : Type 1} → statement M
+case_j_spec =
     tie.close
     (tie.spec
     (λ c κs. search rules)

@@ -2,8 +2,8 @@
 use Prim.Native.Nat.{◌-◌}
 use native.Mathlib.Omega.{arith}
 use borrow.Author.Rules.{rules}
-use Rattle.text.proofs.Putting.{put-size}
-use Rattle.session.proofs.Playing.{Playing, play-none, play-more, play-all}
+use Rattle.text.proofs.Putting.{put_size}
+use Rattle.session.proofs.Playing.{Playing, play_none, play_more, play_all}
 use Rattle.session.proofs.play.Statement.{statement}
 use Rattle.session.proofs.play.Tie as tie
 
@@ -15,7 +15,7 @@ abbrev decreases-loop : tie.decreases-loop
 decreases-loop output₀ used machine₀ cores slots at₀ number₀ output machine at number = slots - number
 
 loop-holds : tie.Need-loop-init invariant-loop decreases-loop
-loop-holds c = play-none _ _ _ _ _
+loop-holds c = play_none _ _ _ _ _
 
 loop-again : tie.Need-loop-preserved invariant-loop decreases-loop
 loop-again c =
@@ -23,16 +23,16 @@ loop-again c =
     let s = p.before.before.before in
     let t = s.before in
     rw s.slot.ensures
-    (play-more _ _ _ _ _ _ _ _ _ t.before.loop.invariant t.loop-test.true _ _ (rw s.slot.ensures at p.put-slot.ensures))
+    (play_more _ _ _ _ _ _ _ _ _ t.before.loop.invariant t.loop-test.true _ _ (rw s.slot.ensures at p.put-slot.ensures))
 
 same_length : tie.Need-same-length invariant-loop decreases-loop
-same_length c = put-size _ _ _ _ _ c.before.loop.invariant.lines.put
+same_length c = put_size _ _ _ _ _ c.before.loop.invariant.lines.put
 
 returns : tie.Need-returns invariant-loop decreases-loop
-returns c = play-all _ _ _ _ _ _ _ _ _ c.before.loop.invariant c.loop-test.false
+returns c = play_all _ _ _ _ _ _ _ _ _ c.before.loop.invariant c.loop-test.false
 
-pub play-spec : {M : Type 1} → statement M
-play-spec =
+pub play_spec : {M : Type 1} → statement M
+play_spec =
     tie.close
     (tie.spec
     invariant-loop

@@ -1,18 +1,18 @@
 -- `put_slot` meets its contract: its four numbers are those of the line.
-use Rattle.session.specs.Printed.{slotLine}
+use Rattle.session.specs.Printed.{slot_line}
 use borrow.Author.Rules.{rules}
 use Rattle.session.proofs.put_slot.Statement.{statement}
 use Rattle.session.proofs.put_slot.Tie as tie
 
 returns : tie.Need-returns
-unfolding slotLine
+unfolding slot_line
 returns c =
     let n = c.before.before in
     let m = n.before.before.before in
     rw (← m.before.before.mask.ensures, ← m.before.mask2.ensures, ← m.mask3.ensures) n.put-numbers.ensures
 
-pub put-slot-spec : {M : Type 1} → statement M
-put-slot-spec =
+pub put_slot_spec : {M : Type 1} → statement M
+put_slot_spec =
     tie.close
     (tie.spec
     (λ c κs. search rules)

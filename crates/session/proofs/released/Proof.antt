@@ -4,8 +4,8 @@ use native.Mathlib.Numerals.{add-one}
 use native.Mathlib.Omega.{arith}
 use mathlib.Core.Path.{◌≡◌}
 use borrow.Author.Rules.{rules}
-use Rattle.tasks.specs.Table.{zeroTask}
-use Rattle.session.proofs.Playing.{Released, released-none, released-more}
+use Rattle.tasks.specs.Table.{zero_task}
+use Rattle.session.proofs.Playing.{Released, released_none, released_more}
 use Rattle.session.proofs.released.Statement.{statement}
 use Rattle.session.proofs.released.Tie as tie
 
@@ -16,14 +16,14 @@ abbrev decreases-loop : tie.decreases-loop
 decreases-loop machine₀ count table number₀ machine number = count - number
 
 loop-holds : tie.Need-loop-init invariant-loop decreases-loop
-loop-holds c = (omega arith, released-none _ _)
+loop-holds c = (omega arith, released_none _ _)
 
 loop-again : tie.Need-loop-preserved invariant-loop decreases-loop
-unfolding zeroTask
+unfolding zero_task
 loop-again c =
     let r = c.before in
     let l = r.before.before.before in
-    (omega arith, rw (r.release.ensures, add-one l.loop.number) (released-more _ _ _ _ l.loop.invariant.1))
+    (omega arith, rw (r.release.ensures, add-one l.loop.number) (released_more _ _ _ _ l.loop.invariant.1))
 
 returns : tie.Need-returns invariant-loop decreases-loop
 returns c =
@@ -31,8 +31,8 @@ returns c =
     let e : l.loop.number ≡ l.before.args.count = omega arith in
     rw e at l.loop.invariant.1
 
-pub released-spec : {M : Type 1} → statement M
-released-spec =
+pub released_spec : {M : Type 1} → statement M
+released_spec =
     tie.close
     (tie.spec
     invariant-loop

@@ -7,19 +7,19 @@ use borrow.Author.Rules.{rules}
 use lib.ListN.{length}
 use Rattle.text.specs.Output.{Put, Holds}
 use Rattle.text.proofs.Putting.{put_then, put_all}
-use Rattle.session.specs.Printed.{caseJ, caseK, slotLinesFrom, printed}
-use Rattle.session.proofs.CaseLinesHold.{printed-few}
+use Rattle.session.specs.Printed.{case_j, case_k, slot_lines_from, printed}
+use Rattle.session.proofs.CaseLinesHold.{printed_few}
 use Rattle.session.proofs.sessions.Statement.{statement}
 use Rattle.session.proofs.sessions.Tie as tie
 
 -- the lines of both cases, from the start of an array that has room for them
 both :
-    (a b d s t : List ℕ) (v w : ℕ) → Put a 0 s b v → Put b v t d w → slotLinesFrom 1 caseJ ≡ s → slotLinesFrom 1 caseK ≡ t → 88 ≤ length a
+    (a b d s t : List ℕ) (v w : ℕ) → Put a 0 s b v → Put b v t d w → slot_lines_from 1 case_j ≡ s → slot_lines_from 1 case_k ≡ t → 88 ≤ length a
     → Holds printed d w
 unfolding printed
 both a b d s t v w p q e f h =
     let z : printed ≡ s ++ t = rw (e, f) in
-    let l : length (s ++ t) ≤ length a = rw z at (le_trans printed-few h) in
+    let l : length (s ++ t) ≤ length a = rw z at (le_trans printed_few h) in
     rw z (put_all a (s ++ t) d w (put_then a 0 s b v p t d w q) l)
 
 returns : tie.Need-returns
@@ -28,8 +28,8 @@ returns c =
     let j = k.before.before.before.before.before in
     both _ _ _ _ _ _ _ j.play.ensures k.play2.ensures j.before.case-j.ensures k.before.case-k.ensures j.before.before.before.before.requires
 
-pub sessions-spec : {M : Type 1} → statement M
-sessions-spec =
+pub sessions_spec : {M : Type 1} → statement M
+sessions_spec =
     tie.close
     (tie.spec
     (λ c κs. search rules)

@@ -8,5 +8,5 @@ returns : tie.Need-returns
 unfolding task
 returns c = refl
 
-pub task-spec : {M : Type 1} → statement M
-task-spec = tie.close (tie.spec returns)
+pub task_spec : {M : Type 1} → statement M
+task_spec = tie.close (tie.spec returns)

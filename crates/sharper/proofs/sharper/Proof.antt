@@ -1,5 +1,5 @@
 -- `sharper` meets its contract: there is room for what is put.
-use Rattle.lines.proofs.PrintedFew.{printed-held}
+use Rattle.lines.proofs.PrintedFew.{printed_held_lem}
 use borrow.Author.Rules.{rules}
 use Rattle.sharper.proofs.sharper.Statement.{statement}
 use Rattle.sharper.proofs.sharper.Tie as tie
@@ -7,10 +7,10 @@ use Rattle.sharper.proofs.sharper.Tie as tie
 returns : tie.Need-returns
 returns c =
     let p = c.before.before in
-    printed-held _ _ _ _ _ p.before.before.before.before.requires p.put-printed.ensures
+    printed_held_lem _ _ _ _ _ p.before.before.before.before.requires p.put-printed.ensures
 
-pub sharper-spec : {M : Type 1} → statement M
-sharper-spec = tie.close
+pub sharper_spec : {M : Type 1} → statement M
+sharper_spec = tie.close
     (tie.spec
     (λ c κs. search rules)
     (λ c. search rules)

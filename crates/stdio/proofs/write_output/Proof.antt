@@ -12,8 +12,8 @@ slice-aggregate-write-all c = sym (length-take-le _ _ c.before.if1.false)
 returns-2 : tie.Need-returns-2
 returns-2 c = λ h. absurd (omega (arith, h, c.before.before.if1.false))
 
-pub write-output-spec : {M : Type 1} → statement M
-write-output-spec =
+pub write_output_spec : {M : Type 1} → statement M
+write_output_spec =
     tie.close
     (tie.spec
     (λ c. search rules)

@@ -4,16 +4,16 @@ use native.Mathlib.Omega.{arith}
 use mathlib.Core.Path.{◌≡◌, refl, ◌∙◌}
 use borrow.Author.Rules.{rules}
 use lib.ListN.{length}
-use Rattle.tasks.specs.Limits.{maxTasks}
-use Rattle.text.proofs.Putting.{put-size}
+use Rattle.tasks.specs.Limits.{max_tasks}
+use Rattle.text.proofs.Putting.{put_size}
 use Rattle.test_reading.proofs.put_tasks.Statement.{statement}
 use Rattle.test_reading.proofs.put_tasks.Tie as tie
 
 abbrev invariant-loop : tie.invariant-loop
-invariant-loop output₀ used tasks at₀ i₀ output at i = (i ≤ maxTasks) × (length output ≡ length output₀)
+invariant-loop output₀ used tasks at₀ i₀ output at i = (i ≤ max_tasks) × (length output ≡ length output₀)
 
 abbrev decreases-loop : tie.decreases-loop
-decreases-loop output₀ used tasks at₀ i₀ output at i = maxTasks - i
+decreases-loop output₀ used tasks at₀ i₀ output at i = max_tasks - i
 
 loop-holds : tie.Need-loop-init invariant-loop decreases-loop
 loop-holds c = (omega arith, refl)
@@ -22,13 +22,13 @@ loop-again : tie.Need-loop-preserved invariant-loop decreases-loop
 loop-again c =
     let p = c.before.before in
     let l = p.before.before.before.before.before.before.before.before in
-    (omega arith, put-size _ _ _ _ _ p.put-numbers.ensures ∙ l.loop.invariant.1)
+    (omega arith, put_size _ _ _ _ _ p.put-numbers.ensures ∙ l.loop.invariant.1)
 
 same_length : tie.Need-same-length invariant-loop decreases-loop
 same_length c = c.before.loop.invariant.1
 
-pub put-tasks-spec : {M : Type 1} → statement M
-put-tasks-spec =
+pub put_tasks_spec : {M : Type 1} → statement M
+put_tasks_spec =
     tie.close
     (tie.spec
     invariant-loop

@@ -7,14 +7,14 @@ use mathlib.Core.List.{List}
 use borrow.Author.Rules.{rules}
 use lib.ListN.{length, take}
 use lib.Seq.{length-take-le}
-use Rattle.laws.proofs.Parts.{past, from-drop}
-use Rattle.text.specs.Number.{numberAfter}
+use Rattle.laws.proofs.Parts.{past, from_drop}
+use Rattle.text.specs.Number.{number_after}
 use Rattle.text.specs.declared.number.Number.TheVariants.{Read}
-use Rattle.script.specs.Numbers.{maxDigits, maxNumber}
-use Rattle.script.specs.Words.{coresWord}
+use Rattle.script.specs.Numbers.{max_digits, max_number}
+use Rattle.script.specs.Words.{cores_word}
 use Rattle.script.proofs.WordLineLaws.{Within, found_within}
-use Rattle.audit.specs.Opening.{goodOpening, openedFor}
-use Rattle.audit.proofs.OpeningLaws.{no-first-line, first-broken, log-missing-long, log-missing, log-found}
+use Rattle.audit.specs.Opening.{good_opening, opened_for}
+use Rattle.audit.proofs.OpeningLaws.{no_first_line, first_broken, log_missing_long, log_missing, log_found}
 use Rattle.audit.proofs.opening.open.Statement.{statement}
 use Rattle.audit.proofs.opening.open.Tie as tie
 
@@ -36,13 +36,13 @@ cores-of c = c.before.before.before.before
 number_is :
     (c : tie.After-cores)
     → let e = line_of c in
-    numberAfter maxDigits maxNumber coresWord (take e.before.find.result (input e)) ≡ Read c.cores.given.0.0
+    number_after max_digits max_number cores_word (take e.before.find.result (input e)) ≡ Read c.cores.given.0.0
 number_is c = sym c.before.before.number-after.ensures ∙ c.cores.given.1
 
 returns : tie.Need-returns
 returns c =
     let t = c.before in
-    c.bad-line.ensures ∙ sym (no-first-line _ _ t.before.find.ensures t.if1.true)
+    c.bad_line_lem.ensures ∙ sym (no_first_line _ _ t.before.find.ensures t.if1.true)
 
 slice-aggregate-number-after : tie.Need-slice-aggregate-number-after
 slice-aggregate-number-after c = sym (length-take-le _ _ (le_of_lt c.before.if1.false))
@@ -53,7 +53,7 @@ returns-2 c =
     let n = t.before.before in
     let e = n.before.before.before in
     c.bad-line2.ensures
-    ∙ sym (first-broken _ _ e.before.find.ensures e.if1.false (sym n.number-after.ensures ∙ t.enum_told.given.1))
+    ∙ sym (first_broken _ _ e.before.find.ensures e.if1.false (sym n.number-after.ensures ∙ t.enum_told.given.1))
 
 returns-3 : tie.Need-returns-3
 returns-3 c =
@@ -63,9 +63,9 @@ returns-3 c =
     let d = cores-of w in
     let e = line_of d in
     c.good2.ensures
-    ∙ ap goodOpening c.before.refused.ensures
+    ∙ ap good_opening c.before.refused.ensures
     ∙ sym
-    (log-missing-long _ _ e.before.find.ensures e.if1.left _ (number_is d) _ (sym w.find-word-line.ensures ∙ l.line.given.1) t.if2.true)
+    (log_missing_long _ _ e.before.find.ensures e.if1.left _ (number_is d) _ (sym w.find-word-line.ensures ∙ l.line.given.1) t.if2.true)
 
 returns-4 : tie.Need-returns-4
 returns-4 c =
@@ -75,7 +75,7 @@ returns-4 c =
     let d = cores-of w in
     let e = line_of d in
     c.bad-line3.ensures
-    ∙ sym (log-missing _ _ e.before.find.ensures e.if1.left _ (number_is d) _ (sym w.find-word-line.ensures ∙ l.line.given.1) t.if2.false)
+    ∙ sym (log_missing _ _ e.before.find.ensures e.if1.left _ (number_is d) _ (sym w.find-word-line.ensures ∙ l.line.given.1) t.if2.false)
 
 -- the table and the log lie within the text
 found :
@@ -100,9 +100,9 @@ returns-5 c =
     let e = line_of d in
     let next = s.start.given.0.1.0 in
     c.open-table.ensures
-    ∙ ap (openedFor (take s.start.given.0.0 (text e)) d.cores.given.0.0) (from-drop (text e) next)
+    ∙ ap (opened_for (take s.start.given.0.0 (text e)) d.cores.given.0.0) (from_drop (text e) next)
     ∙ sym
-    (log-found _ _ e.before.find.ensures e.if1.left _ (number_is d) _ _ _ (sym w.find-word-line.ensures ∙ s.start.given.1))
+    (log_found _ _ e.before.find.ensures e.if1.left _ (number_is d) _ _ _ (sym w.find-word-line.ensures ∙ s.start.given.1))
 
 pub open_spec : {M : Type 1} → statement M
 open_spec =

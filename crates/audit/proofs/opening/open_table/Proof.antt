@@ -4,10 +4,10 @@ use borrow.Author.Rules.{rules}
 use Rattle.reader.specs.Reading.{reading}
 use Rattle.reader.specs.declared.Reading.{Reading}
 use Rattle.tasks.specs.declared.table.Table.{Table}
-use Rattle.auditing.specs.Auditor.{startedAuditor, fed}
+use Rattle.auditing.specs.Auditor.{started_auditor, fed}
 use Rattle.auditing.specs.declared.auditor.Auditor.{Auditor}
-use Rattle.audit.specs.Opening.{goodOpening}
-use Rattle.audit.proofs.OpeningLaws.{text-refused, text-read}
+use Rattle.audit.specs.Opening.{good_opening}
+use Rattle.audit.proofs.OpeningLaws.{text_refused, text_read}
 use Rattle.audit.proofs.opening.open_table.Statement.{statement}
 use Rattle.audit.proofs.opening.open_table.Tie as tie
 
@@ -15,8 +15,8 @@ returns : tie.Need-returns
 returns c =
     let o = c.before.before.before in
     c.good2.ensures
-    ∙ ap goodOpening c.before.refused.ensures
-    ∙ sym (text-refused _ _ _ _ _ (ap (λ (r : Reading). r.outcome) (sym o.before.before.read.ensures) ∙ o.outcome.given.1))
+    ∙ ap good_opening c.before.refused.ensures
+    ∙ sym (text_refused _ _ _ _ _ (ap (λ (r : Reading). r.outcome) (sym o.before.before.read.ensures) ∙ o.outcome.given.1))
 
 returns-2 : tie.Need-returns-2
 returns-2 c =
@@ -26,13 +26,13 @@ returns-2 c =
     let r = t.before.before in
     let log = r.before.before.before.args.log.now in
     c.good3.ensures
-    ∙ ap goodOpening
+    ∙ ap good_opening
     (f.feed.ensures
-    ∙ ap (λ (a : Auditor). fed a log) (s.start.ensures ∙ ap (λ (x : Reading). startedAuditor x.table r.before.before.before.args.cores) r.read.ensures))
-    ∙ sym (text-read _ _ _ (ap (λ (x : Reading). x.outcome) (sym r.read.ensures) ∙ t.enum_told.given.1))
+    ∙ ap (λ (a : Auditor). fed a log) (s.start.ensures ∙ ap (λ (x : Reading). started_auditor x.table r.before.before.before.args.cores) r.read.ensures))
+    ∙ sym (text_read _ _ _ (ap (λ (x : Reading). x.outcome) (sym r.read.ensures) ∙ t.enum_told.given.1))
 
-pub open-table-spec : {M : Type 1} → statement M
-open-table-spec =
+pub open_table_spec : {M : Type 1} → statement M
+open_table_spec =
     tie.close
     (tie.spec
     (λ c κs. search rules)

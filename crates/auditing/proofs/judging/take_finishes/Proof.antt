@@ -9,20 +9,20 @@ use borrow.Author.Rules.{rules}
 use Rattle.machine.specs.Calls.{finish, step}
 use Rattle.machine.specs.declared.machine.Machine.{Machine}
 use Rattle.machine.specs.declared.answer.Answer.{Answer}
-use Rattle.auditing.specs.Line.{finishAt}
-use Rattle.auditing.proofs.CallsLeft.{CallsLeft, left-none, some_left, left-idle, left-taken, left-refused, left-all}
+use Rattle.auditing.specs.Line.{finish_at}
+use Rattle.auditing.proofs.CallsLeft.{CallsLeft, left_none, some_left, left_idle, left_taken, left_refused, left_all}
 use Rattle.auditing.proofs.judging.take_finishes.Statement.{statement}
 use Rattle.auditing.proofs.judging.take_finishes.Tie as tie
 
 abbrev invariant-loop : tie.invariant-loop
-invariant-loop finished after₀ rest₀ i₀ after rest i = CallsLeft finishAt after₀ finished after rest i
+invariant-loop finished after₀ rest₀ i₀ after rest i = CallsLeft finish_at after₀ finished after rest i
 
 abbrev decreases-loop : tie.decreases-loop
 decreases-loop finished after₀ rest₀ i₀ after rest i = rest
 
 -- the code's call is the definition's
-is-step : (m : Machine) (i : ℕ) (r : Answer) → r ≡ finish m (i + 1) → step m (finishAt i) ≡ r
-unfolding step finishAt
+is-step : (m : Machine) (i : ℕ) (r : Answer) → r ≡ finish m (i + 1) → step m (finish_at i) ≡ r
+unfolding step finish_at
 is-step m i r e = sym (rw (add-one i) at e)
 
 -- the task is one of 32
@@ -34,7 +34,7 @@ returns c =
     let f = c.before.before in
     let l = f.before.before in
     let here = is-step _ _ _ f.finish.ensures in
-    left-refused _ _ _ _ _ _ l.before.loop.invariant l.loop-test.true f.before.if1.true _ _
+    left_refused _ _ _ _ _ _ l.before.loop.invariant l.loop-test.true f.before.if1.true _ _
     (ap (λ (r : Answer). r.outcome) here ∙ c.enum-told2.given.1)
 
 loop-again : tie.Need-loop-preserved invariant-loop decreases-loop
@@ -44,21 +44,21 @@ loop-again c =
     (λ w.
     let here = is-step _ _ _ w.1.ensures in
     rw (w.5 ∙ ap (λ (r : Answer). r.machine) (sym here))
-    (left-taken _ _ _ _ _ _ l.before.loop.invariant l.loop-test.true w.0.taken
+    (left_taken _ _ _ _ _ _ l.before.loop.invariant l.loop-test.true w.0.taken
     (ap (λ (r : Answer). r.outcome) here ∙ w.3.given.1)))
-    (λ w. rw w.1 (left-idle _ _ _ _ _ _ l.before.loop.invariant l.loop-test.true w.0.left))
+    (λ w. rw w.1 (left_idle _ _ _ _ _ _ l.before.loop.invariant l.loop-test.true w.0.left))
     c.if1.branch
 
 returns-2 : tie.Need-returns-2 invariant-loop decreases-loop
-returns-2 c = left-all _ _ _ _ _ _ c.before.loop.invariant (omega arith)
+returns-2 c = left_all _ _ _ _ _ _ c.before.loop.invariant (omega arith)
 
-pub take-finishes-spec : {M : Type 1} → statement M
-take-finishes-spec =
+pub take_finishes_spec : {M : Type 1} → statement M
+take_finishes_spec =
     tie.close
     (tie.spec
     invariant-loop
     decreases-loop
-    (λ c. left-none _ _ _ (omega arith))
+    (λ c. left_none _ _ _ (omega arith))
     (λ c. omega (arith, inside c.before))
     (λ c. omega (arith, inside c.before))
     (λ c κs. search rules)

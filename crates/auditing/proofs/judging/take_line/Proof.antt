@@ -2,46 +2,46 @@
 use mathlib.Core.Path.{◌≡◌, sym, ap, ◌∙◌}
 use borrow.Author.Rules.{rules}
 use borrow.Author.Tests.{not-true, not-false}
-use Rattle.tasks.specs.Outcome.{isDone}
-use Rattle.tasks.specs.Flags.{flagsOf}
-use Rattle.machine.specs.Calls.{slotWith}
+use Rattle.tasks.specs.Outcome.{is_done}
+use Rattle.tasks.specs.Flags.{flags_of}
+use Rattle.machine.specs.Calls.{slot_with}
 use Rattle.machine.specs.declared.answer.Answer.{Answer}
-use Rattle.auditing.proofs.LineByParts.{sound-before, release-refused, finish-refused, running-refused, line-judged}
+use Rattle.auditing.proofs.LineByParts.{sound_before, release_refused, finish_refused, running_refused, line_judged}
 use Rattle.auditing.proofs.judging.take_line.Statement.{statement}
 use Rattle.auditing.proofs.judging.take_line.Tie as tie
 
 returns : tie.Need-returns
-returns c = release-refused _ _ _ c.before.before.take-releases.ensures (not-true _ c.if1.true)
+returns c = release_refused _ _ _ c.before.before.take-releases.ensures (not-true _ c.if1.true)
 
 returns-2 : tie.Need-returns-2
 returns-2 c =
     let f = c.before.before in
     let r = f.before.before in
-    finish-refused _ _ _ r.before.before.take-releases.ensures (not-false _ r.if1.false) _ f.take-finishes.ensures (not-true _ c.if2.true)
+    finish_refused _ _ _ r.before.before.take-releases.ensures (not-false _ r.if1.false) _ f.take-finishes.ensures (not-true _ c.if2.true)
 
 -- the running's answer is the definition's
-running-is :
+running_is :
     (c : tie.After-slot-with)
     → let f = c.before.before.before.before.before in
-    c.slot-with.result ≡ slotWith f.take-finishes.result.machine (flagsOf f.before.before.before.before.before.args.line.ran)
-running-is c = c.slot-with.ensures ∙ ap (slotWith _) c.before.flags_of.ensures
+    c.slot-with.result ≡ slot_with f.take-finishes.result.machine (flags_of f.before.before.before.before.before.args.line.ran)
+running_is c = c.slot-with.ensures ∙ ap (slot_with _) c.before.flags_of.ensures
 
 returns-3 : tie.Need-returns-3
 returns-3 c =
     let s = c.before.before in
     let f = s.before.before.before.before.before in
     let r = f.before.before in
-    running-refused _ _ _ r.before.before.take-releases.ensures (not-false _ r.if1.false) _ f.take-finishes.ensures
+    running_refused _ _ _ r.before.before.take-releases.ensures (not-false _ r.if1.false) _ f.take-finishes.ensures
     (not-false _ s.before.before.before.if2.false)
     _
     _
-    (ap (λ (x : Answer). x.outcome) (sym (running-is s)) ∙ c.enum-told2.given.1)
+    (ap (λ (x : Answer). x.outcome) (sym (running_is s)) ∙ c.enum-told2.given.1)
 
 legal-run-requires : tie.Need-legal-run-requires
-unfolding isDone
+unfolding is_done
 legal-run-requires c κs =
     let s = c.before.before.before in
-    sound-before _ _ (ap (λ (x : Answer). isDone x.outcome) (sym (running-is s)) ∙ ap isDone c.before.enum_told.given.1)
+    sound_before _ _ (ap (λ (x : Answer). is_done x.outcome) (sym (running_is s)) ∙ ap is_done c.before.enum_told.given.1)
 
 returns-4 : tie.Need-returns-4
 returns-4 c =
@@ -50,13 +50,13 @@ returns-4 c =
     let f = s.before.before.before.before.before in
     let r = f.before.before in
     let judged =
-    line-judged _ _ _ r.before.before.take-releases.ensures (not-false _ r.if1.false) _ f.take-finishes.ensures
+    line_judged _ _ _ r.before.before.take-releases.ensures (not-false _ r.if1.false) _ f.take-finishes.ensures
     (not-false _ s.before.before.before.if2.false)
-    (ap (λ (x : Answer). x.outcome) (sym (running-is s)) ∙ t.enum_told.given.1) in
-    rw (running-is s, c.legal-run.ensures, s.before.flags_of.ensures) judged
+    (ap (λ (x : Answer). x.outcome) (sym (running_is s)) ∙ t.enum_told.given.1) in
+    rw (running_is s, c.legal_run_lem.ensures, s.before.flags_of.ensures) judged
 
-pub take-line-spec : {M : Type 1} → statement M
-take-line-spec =
+pub take_line_spec : {M : Type 1} → statement M
+take_line_spec =
     tie.close
     (tie.spec
     (λ c κs. search rules)

@@ -1,23 +1,23 @@
 -- `read_line` meets its contract: its three values are those of the line.
 use borrow.Author.Rules.{rules}
 use borrow.Author.Tests.{not-false}
-use Rattle.laws.proofs.Booleans.{was-false}
-use Rattle.auditing.specs.Log.{isValueLine}
-use Rattle.auditing.proofs.LineReadLaws.{no-values, values-read}
+use Rattle.laws.proofs.Booleans.{was_false}
+use Rattle.auditing.specs.Log.{is_value_line}
+use Rattle.auditing.proofs.LineReadLaws.{no_values, values_read}
 use Rattle.auditing.proofs.line.read_line.Statement.{statement}
 use Rattle.auditing.proofs.line.read_line.Tie as tie
 
 returns : tie.Need-returns
-unfolding isValueLine
-returns c = no-values _ (was-false c.before.before.fill-from-line.ensures.is c.if1.true)
+unfolding is_value_line
+returns c = no_values _ (was_false c.before.before.fill-from-line.ensures.is c.if1.true)
 
 returns-2 : tie.Need-returns-2
 returns-2 c =
     let n = c.before.before in
-    values-read _ _ (rw (not-false n.fill-from-line.result c.if1.false) at n.fill-from-line.ensures)
+    values_read _ _ (rw (not-false n.fill-from-line.result c.if1.false) at n.fill-from-line.ensures)
 
-pub read-line-spec : {M : Type 1} → statement M
-read-line-spec =
+pub read_line_spec : {M : Type 1} → statement M
+read_line_spec =
     tie.close
     (tie.spec
     (λ c. search rules)

@@ -6,33 +6,33 @@ use mathlib.Core.Path.{◌≡◌, refl, sym, ◌∙◌}
 use mathlib.Core.Bool.{Bool, true, false}
 use mathlib.Core.List.{List}
 use lib.ListN.{get_or}
-use Rattle.tasks.specs.Limits.{maxTasks}
-use Rattle.auditing.specs.Turn.{noneFrom, nonePast}
+use Rattle.tasks.specs.Limits.{max_tasks}
+use Rattle.auditing.specs.Turn.{none_from, none_past}
 use Rattle.auditing.proofs.running.none_past.Statement.{statement}
 use Rattle.auditing.proofs.running.none_past.Tie as tie
 
 abbrev invariant-loop : tie.invariant-loop
-invariant-loop count ran i₀ i = nonePast ran count ≡ noneFrom ran i (maxTasks - i)
+invariant-loop count ran i₀ i = none_past ran count ≡ none_from ran i (max_tasks - i)
 
 abbrev decreases-loop : tie.decreases-loop
-decreases-loop count ran i₀ i = maxTasks - i
+decreases-loop count ran i₀ i = max_tasks - i
 
 loop-holds : tie.Need-loop-init invariant-loop decreases-loop
-unfolding nonePast
+unfolding none_past
 loop-holds c = refl
 
-module _ (ran : List Bool) (i : ℕ) (h : i < maxTasks) where
-  set_here : get_or ran i false ≡ true → noneFrom ran i (maxTasks - i) ≡ false
-  unfolding noneFrom
-  set_here e = let more : maxTasks - i ≡ suc (maxTasks - (i + 1)) = omega arith in rw (more, e)
+module _ (ran : List Bool) (i : ℕ) (h : i < max_tasks) where
+  set_here : get_or ran i false ≡ true → none_from ran i (max_tasks - i) ≡ false
+  unfolding none_from
+  set_here e = let more : max_tasks - i ≡ suc (max_tasks - (i + 1)) = omega arith in rw (more, e)
 
-  unset-here : get_or ran i false ≡ false → noneFrom ran i (maxTasks - i) ≡ noneFrom ran (i + 1) (maxTasks - (i + 1))
-  unfolding noneFrom
-  unset-here e = let more : maxTasks - i ≡ suc (maxTasks - (i + 1)) = omega arith in rw (more, e, add-one i)
+  unset-here : get_or ran i false ≡ false → none_from ran i (max_tasks - i) ≡ none_from ran (i + 1) (max_tasks - (i + 1))
+  unfolding none_from
+  unset-here e = let more : max_tasks - i ≡ suc (max_tasks - (i + 1)) = omega arith in rw (more, e, add-one i)
 
-none_left : (ran : List Bool) (i : ℕ) → maxTasks ≤ i → noneFrom ran i (maxTasks - i) ≡ true
-unfolding noneFrom
-none_left ran i h = let none : maxTasks - i ≡ 0 = omega arith in rw none
+none_left : (ran : List Bool) (i : ℕ) → max_tasks ≤ i → none_from ran i (max_tasks - i) ≡ true
+unfolding none_from
+none_left ran i h = let none : max_tasks - i ≡ 0 = omega arith in rw none
 
 returns : tie.Need-returns invariant-loop decreases-loop
 returns c =
@@ -47,8 +47,8 @@ loop-again c =
 returns-2 : tie.Need-returns-2 invariant-loop decreases-loop
 returns-2 c = sym (c.before.loop.invariant ∙ none_left _ _ (omega (arith, c.loop-test.false)))
 
-pub none-past-spec : {M : Type 1} → statement M
-none-past-spec =
+pub none_past_spec : {M : Type 1} → statement M
+none_past_spec =
     tie.close
     (tie.spec
     invariant-loop

@@ -6,9 +6,9 @@ use mathlib.Core.List.{List, []}
 use lib.ListN.{length, drop}
 use lib.Seq.{drop-length}
 use borrow.Author.Rules.{rules}
-use Rattle.cores.specs.Assign.{isAmong, firstUnused, taken, assignment}
-use Rattle.cores.proofs.KeptLaws.{length-kept}
-use Rattle.cores.proofs.Taking.{Taking, taking-none, taking-has, taking-far, takes-lowest, lowest-fits, taking-one}
+use Rattle.cores.specs.Assign.{is_among, first_unused, taken, assignment}
+use Rattle.cores.proofs.KeptLaws.{length_kept}
+use Rattle.cores.proofs.Taking.{Taking, taking_none, taking_has, taking_far, takes_lowest, lowest_fits, taking_one}
 use Rattle.cores.proofs.assign.assign.Statement.{statement}
 use Rattle.cores.proofs.assign.assign.Tie as tie
 
@@ -24,7 +24,7 @@ keep-requires c κs = (refl, refl)
 loop-holds : tie.Need-loop-init invariant-loop decreases-loop
 loop-holds c =
     let k = c.before.before.keep.ensures in
-    (omega arith, taking-none _ _ _ _ (rw k.are (length-kept _ _ _)) k.flagged)
+    (omega arith, taking_none _ _ _ _ (rw k.are (length_kept _ _ _)) k.flagged)
 
 mul-i : tie.Need-overflow-mul-i invariant-loop decreases-loop
 mul-i c = omega (arith, c.loop-test.true, c.before.before.before.before.before.before.before.before.well-formed)
@@ -33,16 +33,16 @@ mul-i c = omega (arith, c.loop-test.true, c.before.before.before.before.before.b
 is-lowest :
     (c : tie.After-first-unused invariant-loop decreases-loop)
     → let l = c.before.before.before.before.before in
-    c.first-unused.result ≡ firstUnused (isAmong l.loop.cores) 1 l.before.before.before.before.before.before.before.args.available
+    c.first-unused.result ≡ first_unused (is_among l.loop.cores) 1 l.before.before.before.before.before.before.before.args.available
 is-lowest c =
     let t = c.before.before.before.before in
     c.first-unused.ensures
-    ∙ takes-lowest _ _ _ _ _ _ t.before.loop.invariant.1 t.loop-test.true c.before.before.if1.true c.before.if2.true
+    ∙ takes_lowest _ _ _ _ _ _ t.before.loop.invariant.1 t.loop-test.true c.before.before.if1.true c.before.if2.true
 
 fits : (c : tie.After-first-unused invariant-loop decreases-loop) → c.first-unused.result ≤ 32
 fits c =
     let t = c.before.before.before.before in
-    rw (is-lowest c) (lowest-fits _ _ _ _ _ _ t.before.loop.invariant.1 t.loop-test.true c.before.before.if1.true c.before.if2.true)
+    rw (is-lowest c) (lowest_fits _ _ _ _ _ _ t.before.loop.invariant.1 t.loop-test.true c.before.before.if1.true c.before.if2.true)
 
 cast-cores : tie.Need-overflow-cast-cores invariant-loop decreases-loop
 cast-cores c = omega (arith, fits c)
@@ -55,18 +55,18 @@ loop-again c =
     let t = c.before.before.before.before in (
       omega arith,
       rw (is-lowest c)
-          (taking-one _ _ _ _ _ _ t.before.loop.invariant.1 t.loop-test.true c.before.before.if1.true c.before.if2.true),
+          (taking_one _ _ _ _ _ _ t.before.loop.invariant.1 t.loop-test.true c.before.before.if1.true c.before.if2.true),
     )
 
 loop-again-2 : tie.Need-loop-preserved-2 invariant-loop decreases-loop
 loop-again-2 c =
     let t = c.before.before.before in
-    (omega arith, taking-has _ _ _ _ _ _ t.before.loop.invariant.1 t.loop-test.true c.if2.false)
+    (omega arith, taking_has _ _ _ _ _ _ t.before.loop.invariant.1 t.loop-test.true c.if2.false)
 
 loop-again-3 : tie.Need-loop-preserved-3 invariant-loop decreases-loop
 loop-again-3 c =
     let t = c.before.before in
-    (omega arith, taking-far _ _ _ _ _ _ t.before.loop.invariant.1 t.loop-test.true c.if1.false)
+    (omega arith, taking_far _ _ _ _ _ _ t.before.loop.invariant.1 t.loop-test.true c.if1.false)
 
 returns : tie.Need-returns invariant-loop decreases-loop
 unfolding assignment taken
@@ -79,8 +79,8 @@ returns c =
     let k = l.before.before.before.keep.ensures.are in
     sym (ap (taken a.available runners) (sym k) ∙ l.loop.invariant.1.left ∙ ap (λ (more : List ℕ). taken a.available more l.loop.cores) done)
 
-pub assign-spec : {M : Type 1} → statement M
-assign-spec =
+pub assign_spec : {M : Type 1} → statement M
+assign_spec =
     tie.close
     (tie.spec
     invariant-loop

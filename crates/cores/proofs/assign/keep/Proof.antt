@@ -3,7 +3,7 @@ use native.Mathlib.Omega.{arith}
 use mathlib.Core.Path.{◌≡◌, sym, ap, ◌∙◌}
 use lib.ListN.{length}
 use borrow.Author.Rules.{rules}
-use Rattle.cores.proofs.Keeping.{Keeping, keeping-length, keeping_none, keeping-more, keeping-large, keeping-far}
+use Rattle.cores.proofs.Keeping.{Keeping, keeping_length, keeping_none, keeping_more, keeping_large, keeping_far}
 use Rattle.cores.proofs.assign.keep.Statement.{statement}
 use Rattle.cores.proofs.assign.keep.Tie as tie
 
@@ -28,39 +28,39 @@ mul-cores : tie.Need-overflow-mul-cores invariant-loop decreases-loop
 mul-cores c = omega (arith, c.before.if1.true)
 
 slice-write-cores : tie.Need-slice-write-cores invariant-loop decreases-loop
-slice-write-cores c = omega (arith, c.before.if1.true, keeping-length c.before.before.before.before.loop.invariant)
+slice-write-cores c = omega (arith, c.before.if1.true, keeping_length c.before.before.before.before.loop.invariant)
 
 slice-write-used : tie.Need-slice-write-used invariant-loop decreases-loop
-slice-write-used c = omega (arith, c.if2.true, c.before.before.before.before.before.loop.invariant.flagged.all-flags)
+slice-write-used c = omega (arith, c.if2.true, c.before.before.before.before.before.loop.invariant.flagged.all_flags)
 
 loop-again : tie.Need-loop-preserved invariant-loop decreases-loop
 loop-again c =
     let k = c.before in
     let t = k.before.before.before in
     rw k.kept-core.ensures
-    (keeping-more _ _ _ _ _ _ t.before.loop.invariant t.loop-test.true k.before.if1.true (omega (arith, c.if2.true, k.kept-core.ensures)))
+    (keeping_more _ _ _ _ _ _ t.before.loop.invariant t.loop-test.true k.before.if1.true (omega (arith, c.if2.true, k.kept-core.ensures)))
 
 loop-again-2 : tie.Need-loop-preserved-2 invariant-loop decreases-loop
 loop-again-2 c =
     let k = c.before in
     let t = k.before.before.before in
     rw k.kept-core.ensures
-    (keeping-large _ _ _ _ _ _ t.before.loop.invariant t.loop-test.true k.before.if1.true (omega (arith, c.if2.false, k.kept-core.ensures)))
+    (keeping_large _ _ _ _ _ _ t.before.loop.invariant t.loop-test.true k.before.if1.true (omega (arith, c.if2.false, k.kept-core.ensures)))
 
 loop-again-3 : tie.Need-loop-preserved-3 invariant-loop decreases-loop
 loop-again-3 c =
     let t = c.before.before in
-    keeping-far _ _ _ _ _ _ t.before.loop.invariant t.loop-test.true (omega (arith, c.if1.false))
+    keeping_far _ _ _ _ _ _ t.before.loop.invariant t.loop-test.true (omega (arith, c.if1.false))
 
 same_length : tie.Need-same-length invariant-loop decreases-loop
 same_length c =
     let l = c.before in
-    keeping-length l.loop.invariant ∙ sym (ap length l.before.before.before.before.requires.0)
+    keeping_length l.loop.invariant ∙ sym (ap length l.before.before.before.before.requires.0)
 
 same-length-2 : tie.Need-same-length-2 invariant-loop decreases-loop
 same-length-2 c =
     let l = c.before in
-    l.loop.invariant.flagged.all-flags ∙ sym (ap length l.before.before.before.before.requires.1)
+    l.loop.invariant.flagged.all_flags ∙ sym (ap length l.before.before.before.before.requires.1)
 
 returns : tie.Need-returns invariant-loop decreases-loop
 returns c =

@@ -1,17 +1,17 @@
 -- `kept_core` meets its contract.
 use native.Mathlib.Omega.{arith}
 use borrow.Author.Tests.{le-leb, lt-leb}
-use Rattle.cores.specs.Assign.{keptCore}
+use Rattle.cores.specs.Assign.{kept_core}
 use Rattle.cores.proofs.assign.kept_core.Statement.{statement}
 use Rattle.cores.proofs.assign.kept_core.Tie as tie
 
 returns : tie.Need-returns
-unfolding keptCore
+unfolding kept_core
 returns c = let a = c.before.args in rw (le-leb a.recorded a.available (omega (arith, c.if1.true)))
 
 returns-2 : tie.Need-returns-2
-unfolding keptCore
+unfolding kept_core
 returns-2 c = let a = c.before.args in rw (lt-leb a.recorded a.available (omega (arith, c.if1.false)))
 
-pub kept-core-spec : {M : Type 1} → statement M
-kept-core-spec = tie.close (tie.spec returns returns-2)
+pub kept_core_spec : {M : Type 1} → statement M
+kept_core_spec = tie.close (tie.spec returns returns-2)

@@ -1,7 +1,7 @@
 -- `cores_sound` meets its contract. The invariant: the cores from n on are sound, and have their flags.
 use native.Mathlib.Omega.{arith}
 use mathlib.Core.Path.{◌≡◌, sym}
-use Rattle.cores.proofs.Seen.{Seen, seen_none, seen-0, seen_more, too_large, seen_twice}
+use Rattle.cores.proofs.Seen.{Seen, seen_none, seen_0, seen_more, too_large, seen_twice}
 use Rattle.cores.proofs.record.cores_sound.Statement.{statement}
 use Rattle.cores.proofs.record.cores_sound.Tie as tie
 
@@ -59,15 +59,15 @@ loop-less-2 c = omega arith
 loop-again-2 : tie.Need-loop-preserved-2 invariant-loop decreases-loop
 loop-again-2 c =
     let t = c.before.before.before in
-    seen-0 _ _ _ t.before.loop.invariant t.loop-test.true (omega (arith, c.before.if1.false)) (omega (arith, c.if2.false))
+    seen_0 _ _ _ t.before.loop.invariant t.loop-test.true (omega (arith, c.before.if1.false)) (omega (arith, c.if2.false))
 
 returns-3 : tie.Need-returns-3 invariant-loop decreases-loop
 returns-3 c =
     let e : c.before.loop.n ≡ 0 = omega arith in
-    sym (rw e at c.before.loop.invariant.rest-sound)
+    sym (rw e at c.before.loop.invariant.rest_sound)
 
-pub cores-sound-spec : {M : Type 1} → statement M
-cores-sound-spec =
+pub cores_sound_spec : {M : Type 1} → statement M
+cores_sound_spec =
     tie.close
     (tie.spec
     invariant-loop

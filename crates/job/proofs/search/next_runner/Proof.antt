@@ -6,9 +6,9 @@ use native.Mathlib.Omega.{arith}
 use mathlib.Core.Path.{◌≡◌, refl, sym, ◌∙◌}
 use borrow.Author.Rules.{rules}
 use lib.ListN.{length}
-use Rattle.laws.proofs.Booleans.{was-true, was-false}
-use Rattle.job.proofs.RankSearch.{Least, least-past-idle, least_stays, least-is-next, none-is-next}
-use Rattle.job.proofs.RankSearch.{Reached, reached-start, reached-idle, reached-waiting, reached-rival}
+use Rattle.laws.proofs.Booleans.{was_true, was_false}
+use Rattle.job.proofs.RankSearch.{Least, least_past_idle, least_stays, least_is_next, none_is_next}
+use Rattle.job.proofs.RankSearch.{Reached, reached_start, reached_idle, reached_waiting, reached_rival}
 use Rattle.job.proofs.search.next_runner.Statement.{statement}
 use Rattle.job.proofs.search.next_runner.Tie as tie
 
@@ -25,31 +25,31 @@ abbrev decreases-candidates : tie.decreases-candidates
 decreases-candidates ranks candidate₀ candidate = length ranks - candidate
 
 candidates-holds : tie.Need-candidates-init invariant-rivals decreases-rivals invariant-candidates decreases-candidates
-candidates-holds c = (omega arith, reached-start)
+candidates-holds c = (omega arith, reached_start)
 
 candidates-again : tie.Need-candidates-preserved invariant-rivals decreases-rivals invariant-candidates decreases-candidates
 candidates-again c =
     let w = c.before in
     let l = w.before.before.before in
-    (omega arith, reached-idle l.candidates.invariant.1 (was-false w.waits.ensures c.if1.true))
+    (omega arith, reached_idle l.candidates.invariant.1 (was_false w.waits.ensures c.if1.true))
 
 rivals-holds : tie.Need-rivals-init invariant-rivals decreases-rivals invariant-candidates decreases-candidates
 rivals-holds c =
     let w = c.before in
     let l = w.before.before.before in
-    (refl, omega arith, reached-waiting l.candidates.invariant.1 (was-true w.waits.ensures c.if1.false))
+    (refl, omega arith, reached_waiting l.candidates.invariant.1 (was_true w.waits.ensures c.if1.false))
 
 rivals-again : tie.Need-rivals-preserved invariant-rivals decreases-rivals invariant-candidates decreases-candidates
 rivals-again c =
     let w = c.before in
     let l = w.before.before.before in
-    (l.rivals.invariant.0, omega arith, least-past-idle l.rivals.invariant.2 (was-false w.waits2.ensures c.if2.true))
+    (l.rivals.invariant.0, omega arith, least_past_idle l.rivals.invariant.2 (was_false w.waits2.ensures c.if2.true))
 
 candidates-again-2 : tie.Need-candidates-preserved-2 invariant-rivals decreases-rivals invariant-candidates decreases-candidates
 candidates-again-2 c =
     let p = c.before in
     let t = p.before.before.before.before.before.before in
-    (omega arith, reached-rival t.before.rivals.invariant.2 t.rivals-test.true (sym p.precedes.ensures ∙ c.if3.true))
+    (omega arith, reached_rival t.before.rivals.invariant.2 t.rivals-test.true (sym p.precedes.ensures ∙ c.if3.true))
 
 rivals-again-2 : tie.Need-rivals-preserved-2 invariant-rivals decreases-rivals invariant-candidates decreases-candidates
 rivals-again-2 c =
@@ -62,16 +62,16 @@ returns c =
     let l = c.before in
     let s = l.before.before.before.before.before.before.before in
     let e : l.rivals.rival ≡ length s.args.ranks.now = omega arith in
-    rw (add-one l.rivals.candidate) (sym (least-is-next _ _ (rw e at l.rivals.invariant.2)))
+    rw (add-one l.rivals.candidate) (sym (least_is_next _ _ (rw e at l.rivals.invariant.2)))
 
 returns-2 : tie.Need-returns-2 invariant-rivals decreases-rivals invariant-candidates decreases-candidates
 returns-2 c =
     let l = c.before in
     let e : l.candidates.candidate ≡ length l.before.before.args.ranks.now = omega arith in
-    sym (none-is-next _ (rw e at l.candidates.invariant.1))
+    sym (none_is_next _ (rw e at l.candidates.invariant.1))
 
-pub next-runner-spec : {M : Type 1} → statement M
-next-runner-spec =
+pub next_runner_spec : {M : Type 1} → statement M
+next_runner_spec =
     tie.close
     (tie.spec
     invariant-rivals

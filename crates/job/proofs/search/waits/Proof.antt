@@ -8,5 +8,5 @@ returns : tie.Need-returns
 unfolding waits
 returns c = refl
 
-pub waits-spec : {M : Type 1} → statement M
-waits-spec = tie.close (tie.spec returns)
+pub waits_spec : {M : Type 1} → statement M
+waits_spec = tie.close (tie.spec returns)

@@ -1,19 +1,19 @@
 -- `Verdict::outcome` meets its contract: in each case it is the definition's value.
-use Rattle.judge.specs.Judge.{refusedValues, values_of}
+use Rattle.judge.specs.Judge.{refused_values, values_of}
 use borrow.Author.Rules.{rules}
 use Rattle.judge.proofs.Verdict.outcome.Statement.{statement}
 use Rattle.judge.proofs.Verdict.outcome.Tie as tie
 
 returns : tie.Need-returns
-unfolding values_of refusedValues
+unfolding values_of refused_values
 returns c = rw c.enum_told.given.1
 
 returns-2 : tie.Need-returns-2
-unfolding values_of refusedValues
+unfolding values_of refused_values
 returns-2 c = rw c.before.self.given.1
 
-pub outcome-spec : {M : Type 1} → statement M
-outcome-spec = tie.close
+pub outcome_spec : {M : Type 1} → statement M
+outcome_spec = tie.close
     (tie.spec
     (λ c. search rules)
     (λ c. search rules)

@@ -2,16 +2,16 @@
 use mathlib.Core.Path.{◌≡◌, sym, ◌∙◌}
 use Rattle.tasks.specs.declared.outcome.Outcome.TheVariants.{Done}
 use Rattle.tasks.specs.Check.{checked}
-use Rattle.tasks.specs.TaskSet.{tasksOf}
+use Rattle.tasks.specs.TaskSet.{tasks_of}
 use Rattle.tasks.proofs.Checked.{Passes, passes}
-use Rattle.judge.specs.SlackJudge.{refusedBySlack, slackJudgedAfter, slackJudged, admissionValuesOf, admission}
-use Rattle.judge.proofs.Listed.{ranges, admits-same-as}
+use Rattle.judge.specs.SlackJudge.{refused_by_slack, slack_judged_after, slack_judged, admission_values_of, admission}
+use Rattle.judge.proofs.Listed.{ranges, admits_same_as}
 use borrow.Author.Rules.{rules}
 use Rattle.judge.proofs.admission.admit.Statement.{statement}
 use Rattle.judge.proofs.admission.admit.Tie as tie
 
 returns : tie.Need-returns
-unfolding admission slackJudged slackJudgedAfter refusedBySlack admissionValuesOf
+unfolding admission slack_judged slack_judged_after refused_by_slack admission_values_of
 returns c =
     let d = c.before.before.before in
     rw (← d.check.ensures, c.before.outcome.given.1)
@@ -32,17 +32,17 @@ admits-requires : tie.Need-admits-requires
 admits-requires c κs =
     let n = c.before.before.before.before in
     let p = passing n.before in
-    ((p.count_fits, p.cores-some, p.cores-fit), ranges _ _ _ _ _ n.Numbers-of.ensures p.tasks-fit)
+    ((p.count_fits, p.cores_some, p.cores_fit), ranges _ _ _ _ _ n.Numbers-of.ensures p.tasks_fit)
 
 returns-2 : tie.Need-returns-2
-unfolding admission slackJudged slackJudgedAfter admissionValuesOf tasksOf
+unfolding admission slack_judged slack_judged_after admission_values_of tasks_of
 returns-2 c =
     let n = c.before.before.before.before.before in
     let s = n.before.before.before.before.before in
-    rw (checks n.before, c.admits.ensures, admits-same-as _ _ _ _ _ n.Numbers-of.ensures s.args.cores)
+    rw (checks n.before, c.admits.ensures, admits_same_as _ _ _ _ _ n.Numbers-of.ensures s.args.cores)
 
-pub admit-spec : {M : Type 1} → statement M
-admit-spec =
+pub admit_spec : {M : Type 1} → statement M
+admit_spec =
     tie.close
     (tie.spec
     (λ c κs. search rules)

@@ -2,17 +2,17 @@
 use mathlib.Core.Path.{◌≡◌, sym, ◌∙◌}
 use Rattle.tasks.specs.declared.outcome.Outcome.TheVariants.{Done}
 use Rattle.tasks.specs.Check.{checked}
-use Rattle.tasks.specs.Numbers.{tableFrom}
-use Rattle.tasks.specs.TaskSet.{tasksOf}
+use Rattle.tasks.specs.Numbers.{table_from}
+use Rattle.tasks.specs.TaskSet.{tasks_of}
 use Rattle.tasks.proofs.Checked.{Passes, passes}
-use Rattle.judge.specs.SlackJudge.{refusedBySlack, slackJudgedAfter, slackJudged, admissionValuesOf, admission}
-use Rattle.judge.proofs.Listed.{ranges, numbers-listed, admits-same-as}
+use Rattle.judge.specs.SlackJudge.{refused_by_slack, slack_judged_after, slack_judged, admission_values_of, admission}
+use Rattle.judge.proofs.Listed.{ranges, numbers_listed, admits_same_as}
 use borrow.Author.Rules.{rules}
 use Rattle.judge.proofs.admission.admit_numbers.Statement.{statement}
 use Rattle.judge.proofs.admission.admit_numbers.Tie as tie
 
 returns : tie.Need-returns
-unfolding admission slackJudged slackJudgedAfter refusedBySlack admissionValuesOf
+unfolding admission slack_judged slack_judged_after refused_by_slack admission_values_of
 returns c =
     let d = c.before.before.before in
     rw (← d.check-numbers.ensures, c.before.outcome.given.1)
@@ -21,34 +21,34 @@ returns c =
 checks :
     (c : tie.After-enum-told)
     → let a = c.before.before.before.args in
-    checked (tableFrom a.periods.now a.budgets.now a.deadlines.now a.count) a.cores ≡ Done
+    checked (table_from a.periods.now a.budgets.now a.deadlines.now a.count) a.cores ≡ Done
 checks c = sym c.before.before.check-numbers.ensures ∙ c.enum_told.given.1
 
 passing :
     (c : tie.After-enum-told)
     → let a = c.before.before.before.args in
-    Passes (tableFrom a.periods.now a.budgets.now a.deadlines.now a.count) a.cores
+    Passes (table_from a.periods.now a.budgets.now a.deadlines.now a.count) a.cores
 passing c = passes _ _ (checks c)
 
 admits-requires : tie.Need-admits-requires
-unfolding tableFrom
+unfolding table_from
 admits-requires c κs =
     let a = c.before.before.before.args in
     let p = passing c in (
-      (p.count_fits, p.cores-some, p.cores-fit),
-      ranges _ _ _ _ _ (numbers-listed a.periods.now a.budgets.now a.deadlines.now a.count p.count_fits) p.tasks-fit,
+      (p.count_fits, p.cores_some, p.cores_fit),
+      ranges _ _ _ _ _ (numbers_listed a.periods.now a.budgets.now a.deadlines.now a.count p.count_fits) p.tasks_fit,
     )
 
 returns-2 : tie.Need-returns-2
-unfolding admission slackJudged slackJudgedAfter admissionValuesOf tasksOf tableFrom
+unfolding admission slack_judged slack_judged_after admission_values_of tasks_of table_from
 returns-2 c =
     let e = c.before in
     let a = e.before.before.before.args in
     let few = (passing e).count_fits in
-    rw (checks e, c.admits.ensures, admits-same-as _ _ _ _ _ (numbers-listed a.periods.now a.budgets.now a.deadlines.now a.count few) a.cores)
+    rw (checks e, c.admits.ensures, admits_same_as _ _ _ _ _ (numbers_listed a.periods.now a.budgets.now a.deadlines.now a.count few) a.cores)
 
-pub admit-numbers-spec : {M : Type 1} → statement M
-admit-numbers-spec =
+pub admit_numbers_spec : {M : Type 1} → statement M
+admit_numbers_spec =
     tie.close
     (tie.spec
     (λ c κs. search rules)

@@ -1,8 +1,8 @@
--- `admits` meets its contract: by the theorem `window-admits` where the window test admits, and else by the rounds on the lists.
+-- `admits` meets its contract: by the theorem `window_admits` where the window test admits, and else by the rounds on the lists.
 use native.Mathlib.Omega.{arith}
 use mathlib.Core.Path.{refl, sym}
 use lib.ListN.{get_or-replicate}
-use Rattle.judge.proofs.Listed.{window-listed, admits-listed}
+use Rattle.judge.proofs.Listed.{window_listed, admits_listed}
 use Rattle.judge.proofs.admission.admits.Statement.{statement}
 use Rattle.judge.proofs.admission.admits.Tie as tie
 
@@ -23,7 +23,7 @@ returns c =
     let s = w.before.before in
     let a = s.args in
     sym
-    (window-listed a.count a.periods.now a.budgets.now a.deadlines.now a.cores w.window-sums.new.1.1.1.0 _
+    (window_listed a.count a.periods.now a.budgets.now a.deadlines.now a.cores w.window-sums.new.1.1.1.0 _
     t.count-by-sums.ensures
     s.requires.1
     w.window-sums.ensures.1
@@ -44,10 +44,10 @@ returns-2 : tie.Need-returns-2
 returns-2 c =
     let l = c.before.before in
     let a = l.before.before.before.before.before.before.before.args in
-    admits-listed a.count a.periods.now a.budgets.now a.deadlines.now a.cores l.last-round.new.1.1.1.0 _
+    admits_listed a.count a.periods.now a.budgets.now a.deadlines.now a.cores l.last_round.new.1.1.1.0 _
     c.count-by-sums2.ensures
-    l.last-round.ensures.1
+    l.last_round.ensures.1
 
-pub admits-spec : {M : Type 1} → statement M
-admits-spec =
+pub admits_spec : {M : Type 1} → statement M
+admits_spec =
     tie.close (tie.spec window-sums-requires count-by-sums-requires returns last-round-requires count-by-sums-requires-2 returns-2)

@@ -30,8 +30,8 @@ returns : tie.Need-returns
 unfolding interference
 returns c = c.min2.ensures ∙ rw c.before.min.ensures
 
-pub divided-part-spec : {M : Type 1} → statement M
-divided-part-spec =
+pub divided_part_spec : {M : Type 1} → statement M
+divided_part_spec =
     tie.close
     (tie.spec
     (λ c. search rules)

@@ -8,10 +8,10 @@ use mathlib.Core.List.{List}
 use lib.ListN.{get_or}
 use borrow.Author.Rules.{rules}
 use Rattle.laws.specs.Sums.{sum_to, others}
-use Rattle.edzl.specs.Window.{spare, windowSum}
-use Rattle.laws.proofs.SumLaws.{others-at, others-off}
+use Rattle.edzl.specs.Window.{spare, window_sum}
+use Rattle.laws.proofs.SumLaws.{others_at, others_off}
 use Rattle.judge.specs.Listed.{listed}
-use Rattle.judge.specs.Parts.{part_of, ownPart}
+use Rattle.judge.specs.Parts.{part_of, own_part}
 use Rattle.judge.proofs.few.sum_of.Statement.{statement}
 use Rattle.judge.proofs.few.sum_of.Tie as tie
 
@@ -22,7 +22,7 @@ partIn periods budgets deadlines slacks count k i = part_of (listed periods budg
 abbrev invariant-loop : tie.invariant-loop
 invariant-loop periods budgets deadlines slacks count k deadline spare sum₀ i₀ sum i =
     (i ≤ count)
-    × (sum ≡ sum_to i (others k (partIn periods budgets deadlines slacks count k)) + ownPart (get_or budgets k 0) (get_or deadlines k 0))
+    × (sum ≡ sum_to i (others k (partIn periods budgets deadlines slacks count k)) + own_part (get_or budgets k 0) (get_or deadlines k 0))
     × (sum ≤ i * 1_000_000 + 1_000_000)
 
 abbrev decreases-loop : tie.decreases-loop
@@ -47,12 +47,12 @@ divided-part-requires c κs =
     (omega (arith, r), omega (arith, r), omega (arith, c.before.before.saturating-sub.ensures, own))
 
 -- The part of task i.
-part-is :
+part_is :
     (c : tie.After-divided-part invariant-loop decreases-loop)
     → let l = c.before.before.before.before.before.before.before in
     let a = l.before.before.before.before.before.args in
     c.divided-part.result ≡ partIn a.periods.now a.budgets.now a.deadlines.now a.slacks.now a.count a.k l.loop.i
-part-is c = c.divided-part.ensures ∙ rw c.before.before.before.saturating-sub.ensures
+part_is c = c.divided-part.ensures ∙ rw c.before.before.before.saturating-sub.ensures
 
 add-sum : tie.Need-overflow-add-sum invariant-loop decreases-loop
 add-sum c =
@@ -75,22 +75,22 @@ loop-again c =
     (λ w.
     let part : w.5.result ≡ f i = w.5.ensures ∙ rw w.2.ensures in
     let added : c.if1.sum ≡ l.loop.sum + w.5.result = w.6 in
-    (omega (arith, part, added, others-off f w.0.taken), omega (arith, added, w.5.ensures, own)))
+    (omega (arith, part, added, others_off f w.0.taken), omega (arith, added, w.5.ensures, own)))
     (λ w.
     let same : c.if1.sum ≡ l.loop.sum = w.1 in
-    (omega (arith, same, others-at f w.0.left), omega (arith, same)))
+    (omega (arith, same, others_at f w.0.left), omega (arith, same)))
     c.if1.branch in
     (omega arith, rw (add-one i) (omega (arith, l.loop.invariant.1, counted.0)), omega (arith, l.loop.invariant.2, counted.1))
 
 returns : tie.Need-returns invariant-loop decreases-loop
-unfolding windowSum spare
+unfolding window_sum spare
 returns c =
     let l = c.before in
     let e : l.loop.i ≡ l.before.before.before.before.before.args.count = omega arith in
     l.loop.invariant.1 ∙ rw e
 
-pub sum-of-spec : {M : Type 1} → statement M
-sum-of-spec =
+pub sum_of_spec : {M : Type 1} → statement M
+sum_of_spec =
     tie.close
     (tie.spec
     invariant-loop

@@ -5,17 +5,17 @@ use mathlib.Core.Path.{◌≡◌, refl}
 use mathlib.Core.List.{List}
 use lib.ListN.{get_or, length, length-set}
 use Rattle.laws.specs.Lists.{replaced}
-use Rattle.laws.proofs.Replaced.{replaced-more, replaced-at}
-use Rattle.edzl.specs.Window.{windowSum}
+use Rattle.laws.proofs.Replaced.{replaced_more, replaced_at}
+use Rattle.edzl.specs.Window.{window_sum}
 use Rattle.judge.specs.Listed.{listed}
-use Rattle.judge.specs.Parts.{ownPart}
+use Rattle.judge.specs.Parts.{own_part}
 use Rattle.judge.proofs.few.sums_anew.Statement.{statement}
 use Rattle.judge.proofs.few.sums_anew.Tie as tie
 
 -- The sum of task k, with the own part.
 abbrev sumWith : (periods budgets deadlines slacks : List ℕ) (count k : ℕ) → ℕ
 sumWith periods budgets deadlines slacks count k =
-    windowSum (listed periods budgets deadlines count) (λ i. get_or slacks i 0) k + ownPart (get_or budgets k 0) (get_or deadlines k 0)
+    window_sum (listed periods budgets deadlines count) (λ i. get_or slacks i 0) k + own_part (get_or budgets k 0) (get_or deadlines k 0)
 
 abbrev invariant-loop : tie.invariant-loop
 invariant-loop periods budgets deadlines slacks sums₀ count k₀ sums k =
@@ -34,15 +34,15 @@ sum-of-requires c κs = let p = c.before.before.requires in ((p.0.0, omega arith
 loop-again : tie.Need-loop-preserved invariant-loop decreases-loop
 loop-again c =
     let l = c.before.before in
-    (omega arith, simp length-set l.loop.invariant.1, replaced-more _ _ _ l.loop.invariant.2 c.sum_of.ensures)
+    (omega arith, simp length-set l.loop.invariant.1, replaced_more _ _ _ l.loop.invariant.2 c.sum_of.ensures)
 
 returns : tie.Need-returns invariant-loop decreases-loop
 returns c =
     let l = c.before.loop in
-    (l.invariant.1, λ k h. rw l.invariant.2 (replaced-at _ _ 0 l.k k (omega arith) (omega (arith, c.before.before.requires.0))))
+    (l.invariant.1, λ k h. rw l.invariant.2 (replaced_at _ _ 0 l.k k (omega arith) (omega (arith, c.before.before.requires.0))))
 
-pub sums-anew-spec : {M : Type 1} → statement M
-sums-anew-spec =
+pub sums_anew_spec : {M : Type 1} → statement M
+sums_anew_spec =
     tie.close
     (tie.spec
     invariant-loop

@@ -3,18 +3,18 @@ use Prim.Native.Nat.{◌-◌, ◌≤◌}
 use native.Mathlib.Omega.{arith}
 use mathlib.Core.Path.{◌≡◌, refl}
 use lib.ListN.{get_or}
-use Rattle.tasks.specs.Table.{zeroTask}
+use Rattle.tasks.specs.Table.{zero_task}
 use Rattle.laws.specs.Lists.{replaced}
-use Rattle.laws.proofs.Replaced.{replaced-more, replaced-at}
+use Rattle.laws.proofs.Replaced.{replaced_more, replaced_at}
 use Rattle.judge.proofs.numbers.numbers_of.Statement.{statement}
 use Rattle.judge.proofs.numbers.numbers_of.Tie as tie
 
 abbrev invariant-loop : tie.invariant-loop
 invariant-loop count tasks numbers₀ i₀ numbers i =
     (i ≤ count)
-    × (numbers.periods ≡ replaced i (λ j. (get_or tasks j zeroTask).period) numbers₀.periods)
-    × (numbers.budgets ≡ replaced i (λ j. (get_or tasks j zeroTask).budget) numbers₀.budgets)
-    × (numbers.deadlines ≡ replaced i (λ j. (get_or tasks j zeroTask).deadline) numbers₀.deadlines)
+    × (numbers.periods ≡ replaced i (λ j. (get_or tasks j zero_task).period) numbers₀.periods)
+    × (numbers.budgets ≡ replaced i (λ j. (get_or tasks j zero_task).budget) numbers₀.budgets)
+    × (numbers.deadlines ≡ replaced i (λ j. (get_or tasks j zero_task).deadline) numbers₀.deadlines)
 
 abbrev decreases-loop : tie.decreases-loop
 decreases-loop count tasks numbers₀ i₀ numbers i = count - i
@@ -24,13 +24,13 @@ unfolding replaced
 loop-holds c = (omega arith, refl, refl, refl)
 
 loop-again : tie.Need-loop-preserved invariant-loop decreases-loop
-unfolding zeroTask
+unfolding zero_task
 loop-again c =
     let v = c.before.before.loop.invariant in (
       omega arith,
-      replaced-more _ _ _ v.1 refl,
-      replaced-more _ _ _ v.2 refl,
-      replaced-more _ _ _ v.3 refl,
+      replaced_more _ _ _ v.1 refl,
+      replaced_more _ _ _ v.2 refl,
+      replaced_more _ _ _ v.3 refl,
     )
 
 returns : tie.Need-returns invariant-loop decreases-loop
@@ -38,13 +38,13 @@ returns c =
     let v = c.before.loop.invariant in
     let n = c.before.loop.i in
     record {
-      same-period = λ i h. rw v.1 (replaced-at _ _ 0 n i (omega arith) (omega arith));
-      same-budget = λ i h. rw v.2 (replaced-at _ _ 0 n i (omega arith) (omega arith));
-      same-deadline = λ i h. rw v.3 (replaced-at _ _ 0 n i (omega arith) (omega arith));
+      same_period = λ i h. rw v.1 (replaced_at _ _ 0 n i (omega arith) (omega arith));
+      same_budget = λ i h. rw v.2 (replaced_at _ _ 0 n i (omega arith) (omega arith));
+      same_deadline = λ i h. rw v.3 (replaced_at _ _ 0 n i (omega arith) (omega arith));
     }
 
-pub numbers-of-spec : {M : Type 1} → statement M
-numbers-of-spec =
+pub numbers_of_spec : {M : Type 1} → statement M
+numbers_of_spec =
     tie.close
     (tie.spec
     invariant-loop

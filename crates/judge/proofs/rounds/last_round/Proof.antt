@@ -4,16 +4,16 @@ use native.Mathlib.Omega.{arith}
 use mathlib.Core.Path.{◌≡◌, refl, sym, ap, ◌∙◌}
 use mathlib.Core.Logic.{◌⊎◌, inl, inr, ⊎_elim}
 use lib.ListN.{length, replicate}
-use Rattle.laws.proofs.Replaced.{replicate-entry}
+use Rattle.laws.proofs.Replaced.{replicate_entry}
 use Rattle.edzl.specs.TaskSet.{TaskSet}
 use Rattle.edzl.specs.Window.{spare}
-use Rattle.edzl.specs.Slack.{allRounds}
+use Rattle.edzl.specs.Slack.{all_rounds}
 use Rattle.edzl.proofs.WellFormed.{WellFormed}
-use Rattle.edzl.proofs.SlackRounds.{slackAfter, slacks-fit}
+use Rattle.edzl.proofs.SlackRounds.{slack_after, slacks_fit}
 use Rattle.judge.specs.Listed.{listed}
-use Rattle.judge.specs.Parts.{ownPart, SumsWithOwn, LastSumsWithOwn}
-use Rattle.judge.proofs.Listed.{well-listed}
-use Rattle.judge.proofs.RoundsHeld.{AtRound, Computed, after-round, none_before, first-sum, first_on, next-sum, still-on, last-held}
+use Rattle.judge.specs.Parts.{own_part, SumsWithOwn, LastSumsWithOwn}
+use Rattle.judge.proofs.Listed.{well_listed}
+use Rattle.judge.proofs.RoundsHeld.{AtRound, Computed, after_round, none_before, first_sum, first_on, next_sum, still_on, last_held}
 use Rattle.judge.proofs.rounds.last_round.Statement.{statement}
 use Rattle.judge.proofs.rounds.last_round.Tie as tie
 
@@ -38,7 +38,7 @@ abbrev tasksIn : tie.Start invariant-loop decreases-loop → TaskSet
 tasksIn s = listed s.args.periods.now s.args.budgets.now s.args.deadlines.now s.args.count
 
 well : (s : tie.Start invariant-loop decreases-loop) → WellFormed (tasksIn s)
-well s = well-listed s.args.count s.args.periods.now s.args.budgets.now s.args.deadlines.now s.requires.1.0
+well s = well_listed s.args.count s.args.periods.now s.args.budgets.now s.args.deadlines.now s.requires.1.0
 
 loop-holds : tie.Need-loop-init invariant-loop decreases-loop
 loop-holds c =
@@ -47,36 +47,36 @@ loop-holds c =
     let m = s.args.cores in
     let e = c.next-slacks.ensures in
     let slacks = c.next-slacks.new.1.1.1.0 in
-    let computed : Computed set m (slackAfter set m 0) (replicate 32 0) s.args.sums.now slacks c.next-slacks.result
+    let computed : Computed set m (slack_after set m 0) (replicate 32 0) s.args.sums.now slacks c.next-slacks.result
     = record {
-      sums-are = λ k h. s.requires.1.1 k h ∙ ap (λ (n : ℕ). n + ownPart (set.budget k) (set.deadline k)) (first-sum set m k h);
-      slacks-are = e.1.0;
-      changed-is = e.1.1;
+      sums_are = λ k h. s.requires.1.1 k h ∙ ap (λ (n : ℕ). n + own_part (set.budget k) (set.deadline k)) (first_sum set m k h);
+      slacks_are = e.1.0;
+      changed_is = e.1.1;
     } in (
       omega arith,
       omega arith,
       s.requires.0.1,
       e.0,
-      after-round set m 0 (omega arith) (replicate 32 0) s.args.sums.now slacks c.next-slacks.result
-          (λ k h. replicate-entry 32 k 0 ∙ none_before set m k h)
+      after_round set m 0 (omega arith) (replicate 32 0) s.args.sums.now slacks c.next-slacks.result
+          (λ k h. replicate_entry 32 k 0 ∙ none_before set m k h)
           computed
           (first_on set m),
     )
 
 -- Where the rounds end, the last one is the round of its number.
-last-is :
+last_is_lem :
     (l : tie.At-loop invariant-loop decreases-loop) → (l.loop.changed ≡ 0) ⊎ (l.loop.made ≡ 64)
     → let s = l.before.before.before.before in
-    (l.loop.made ≡ (allRounds (tasksIn s) s.args.cores).made) × LastSumsWithOwn (tasksIn s) s.args.cores l.loop.sums
-last-is l end =
+    (l.loop.made ≡ (all_rounds (tasksIn s) s.args.cores).made) × LastSumsWithOwn (tasksIn s) s.args.cores l.loop.sums
+last_is_lem l end =
     let s = l.before.before.before.before in
     let v = l.loop in
     let e : suc (v.made - 1) ≡ v.made = omega arith in
-    let held = last-held (tasksIn s) s.args.cores (v.made - 1) v.before v.sums v.slacks v.changed v.invariant.4 (⊎_elim inl (λ cut. inr (e ∙ cut)) end) in
+    let held = last_held (tasksIn s) s.args.cores (v.made - 1) v.before v.sums v.slacks v.changed v.invariant.4 (⊎_elim inl (λ cut. inr (e ∙ cut)) end) in
     (sym e ∙ held.0, held.1)
 
 returns : tie.Need-returns invariant-loop decreases-loop
-returns c = last-is c.before.before (inl c.if1.true)
+returns c = last_is_lem c.before.before (inl c.if1.true)
 
 next-sums-requires : tie.Need-next-sums-requires invariant-loop decreases-loop
 unfolding spare
@@ -89,8 +89,8 @@ next-sums-requires c κs =
       (
         s.requires.1.0,
         (
-          λ k h. held.sums-are k h ∙ sym (next-sum (tasksIn s) s.args.cores (well s) (v.made - 1) v.before held.before-are k h),
-          λ k h. rw (held.slacks-are k h) (slacks-fit (tasksIn s) s.args.cores (suc (v.made - 1)) k h),
+          λ k h. held.sums_are k h ∙ sym (next_sum (tasksIn s) s.args.cores (well s) (v.made - 1) v.before held.before_are k h),
+          λ k h. rw (held.slacks_are k h) (slacks_fit (tasksIn s) s.args.cores (suc (v.made - 1)) k h),
         ),
       ),
     )
@@ -99,12 +99,12 @@ next-sums-requires c κs =
 sums_next : (c : tie.After-next-sums invariant-loop decreases-loop) →
     let l = c.before.before.before.before.before.before in
     let s = l.before.before.before.before in
-    SumsWithOwn (tasksIn s) (slackAfter (tasksIn s) s.args.cores (suc (l.loop.made - 1))) c.next-sums.new.1.1.1.1.1.0
+    SumsWithOwn (tasksIn s) (slack_after (tasksIn s) s.args.cores (suc (l.loop.made - 1))) c.next-sums.new.1.1.1.1.1.0
 sums_next c k h =
     let l = c.before.before.before.before.before.before in
     let s = l.before.before.before.before in
     c.next-sums.ensures.1 k h
-    ∙ next-sum (tasksIn s) s.args.cores (well s) (suc (l.loop.made - 1)) l.loop.slacks l.loop.invariant.4.slacks-are k h
+    ∙ next_sum (tasksIn s) s.args.cores (well s) (suc (l.loop.made - 1)) l.loop.slacks l.loop.invariant.4.slacks_are k h
 
 next-slacks-requires-2 : tie.Need-next-slacks-requires-2 invariant-loop decreases-loop
 next-slacks-requires-2 c κs =
@@ -126,25 +126,25 @@ loop-again c =
     let e = c.next-slacks2.ensures in
     let sums = d.next-sums.new.1.1.1.1.1.0 in
     let slacks = c.next-slacks2.new.1.1.1.0 in
-    let computed : Computed set m (slackAfter set m r) v.slacks sums slacks c.next-slacks2.result
-    = record { sums-are = sums_next d; slacks-are = e.1.0; changed-is = e.1.1 } in
+    let computed : Computed set m (slack_after set m r) v.slacks sums slacks c.next-slacks2.result
+    = record { sums_are = sums_next d; slacks_are = e.1.0; changed_is = e.1.1 } in
     let again : v.made + 1 - 1 ≡ r = omega arith in (
       omega arith,
       omega arith,
       d.next-sums.ensures.0,
       e.0,
       rw again
-          (after-round set m r (omega arith) v.slacks sums slacks c.next-slacks2.result
-          v.invariant.4.slacks-are
+          (after_round set m r (omega arith) v.slacks sums slacks c.next-slacks2.result
+          v.invariant.4.slacks_are
           computed
-          (still-on set m (v.made - 1) v.before v.sums v.slacks v.changed v.invariant.4 o.if1.false)),
+          (still_on set m (v.made - 1) v.before v.sums v.slacks v.changed v.invariant.4 o.if1.false)),
     )
 
 returns-2 : tie.Need-returns-2 invariant-loop decreases-loop
-returns-2 c = last-is c.before (inr (omega arith))
+returns-2 c = last_is_lem c.before (inr (omega arith))
 
-pub last-round-spec : {M : Type 1} → statement M
-last-round-spec =
+pub last_round_spec : {M : Type 1} → statement M
+last_round_spec =
     tie.close
     (tie.spec
     invariant-loop

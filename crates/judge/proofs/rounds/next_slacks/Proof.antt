@@ -9,11 +9,11 @@ use lib.Dec.{eqb}
 use lib.ListN.{get_or, length, length-set}
 use borrow.Author.Tests.{eq-eqb, ne_eqb}
 use Rattle.laws.specs.Lists.{replaced}
-use Rattle.laws.proofs.Replaced.{replaced-more, replaced-at, replaced-past}
+use Rattle.laws.proofs.Replaced.{replaced_more, replaced_at, replaced_past}
 use Rattle.laws.specs.Sums.{sum_to, bit}
-use Rattle.edzl.specs.Slack.{newSlack}
-use Rattle.laws.proofs.SumLaws.{bit-true, bit-false, bit-small, sum_same}
-use Rattle.judge.specs.Parts.{spareAt, ownPart}
+use Rattle.edzl.specs.Slack.{new_slack}
+use Rattle.laws.proofs.SumLaws.{bit_true, bit_false, bit_small, sum_same}
+use Rattle.judge.specs.Parts.{spare_at, own_part}
 use Rattle.judge.proofs.rounds.next_slacks.Statement.{statement}
 use Rattle.judge.proofs.rounds.next_slacks.Tie as tie
 use mathlib.Core.List.{List}
@@ -21,7 +21,7 @@ use mathlib.Core.List.{List}
 -- The slack of task k by its sum.
 abbrev slackBySum : (budgets deadlines sums : List ℕ) (cores k : ℕ) → ℕ
 slackBySum budgets deadlines sums cores k =
-    newSlack cores (spareAt budgets deadlines k) (get_or sums k 0 - ownPart (get_or budgets k 0) (get_or deadlines k 0))
+    new_slack cores (spare_at budgets deadlines k) (get_or sums k 0 - own_part (get_or budgets k 0) (get_or deadlines k 0))
 
 abbrev invariant-loop : tie.invariant-loop
 invariant-loop budgets deadlines sums slacks₀ count cores changed₀ k₀ slacks changed k =
@@ -47,7 +47,7 @@ slack-of-requires c κs =
 
 -- The slack of task k is still that before.
 slack-before : (l : tie.At-loop invariant-loop decreases-loop) → get_or l.loop.slacks l.loop.k 0 ≡ get_or l.before.args.slacks.now l.loop.k 0
-slack-before l = rw l.loop.invariant.2 (replaced-past _ _ 0 l.loop.k l.loop.k (omega arith))
+slack-before l = rw l.loop.invariant.2 (replaced_past _ _ 0 l.loop.k l.loop.k (omega arith))
 
 loop-again : tie.Need-loop-preserved invariant-loop decreases-loop
 unfolding sum_to
@@ -60,14 +60,14 @@ loop-again c =
     let new = slackBySum a.budgets.now a.deadlines.now a.sums.now a.cores k in
     let counted : c.if1.changed ≡ l.loop.changed + bit (not (eqb old new))
     = ⊎_elim
-    (λ w. omega (arith, w.1, bit-true _ (ap not (ne_eqb old new (λ e. w.0.taken (slack-before l ∙ e ∙ sym s.slack-of.ensures))))))
-    (λ w. omega (arith, w.1, bit-false _ (ap not (eq-eqb old new (sym (slack-before l) ∙ w.0.left ∙ s.slack-of.ensures)))))
+    (λ w. omega (arith, w.1, bit_true _ (ap not (ne_eqb old new (λ e. w.0.taken (slack-before l ∙ e ∙ sym s.slack-of.ensures))))))
+    (λ w. omega (arith, w.1, bit_false _ (ap not (eq-eqb old new (sym (slack-before l) ∙ w.0.left ∙ s.slack-of.ensures)))))
     c.if1.branch in (
       omega arith,
       simp length-set l.loop.invariant.1,
-      replaced-more _ _ _ l.loop.invariant.2 s.slack-of.ensures,
+      replaced_more _ _ _ l.loop.invariant.2 s.slack-of.ensures,
       rw (add-one k) (omega (arith, l.loop.invariant)),
-      omega (arith, l.loop.invariant, bit-small (not (eqb old new))),
+      omega (arith, l.loop.invariant, bit_small (not (eqb old new))),
     )
 
 returns : tie.Need-returns invariant-loop decreases-loop
@@ -76,14 +76,14 @@ returns c =
     let a = l.before.args in
     let e : l.loop.k ≡ a.count = omega arith in
     let is : (k : ℕ) → k < a.count → get_or l.loop.slacks k 0 ≡ slackBySum a.budgets.now a.deadlines.now a.sums.now a.cores k =
-    λ k h. rw l.loop.invariant.2 (replaced-at _ _ 0 l.loop.k k (omega arith) (omega arith))
+    λ k h. rw l.loop.invariant.2 (replaced_at _ _ 0 l.loop.k k (omega arith) (omega arith))
     in (
       l.loop.invariant.1,
       (is, l.loop.invariant.3 ∙ rw e (sum_same _ _ a.count (λ k h. rw (is k h)))),
     )
 
-pub next-slacks-spec : {M : Type 1} → statement M
-next-slacks-spec =
+pub next_slacks_spec : {M : Type 1} → statement M
+next_slacks_spec =
     tie.close
     (tie.spec
     invariant-loop

@@ -4,7 +4,7 @@ use native.Mathlib.Nat.{mul-le-mul_right}
 use native.Mathlib.Omega.{arith}
 use mathlib.Core.Path.{◌≡◌, sym}
 use borrow.Author.Rules.{rules}
-use Rattle.edzl.proofs.SlackLaws.{new-rounded}
+use Rattle.edzl.proofs.SlackLaws.{new_rounded}
 use Rattle.judge.proofs.rounds.slack_of.Statement.{statement}
 use Rattle.judge.proofs.rounds.slack_of.Tie as tie
 
@@ -28,10 +28,10 @@ returns c =
     let spare = a.deadline - a.budget in
     let own = min a.budget spare in
     let lacking : c.saturating-sub.result ≡ a.cores * spare - (a.sum - own) = omega (arith, c.saturating-sub.ensures, c.before.own-part.ensures, s.requires.1) in
-    rw lacking (sym (new-rounded a.cores spare (a.sum - own) s.requires.0.2))
+    rw lacking (sym (new_rounded a.cores spare (a.sum - own) s.requires.0.2))
 
-pub slack-of-spec : {M : Type 1} → statement M
-slack-of-spec =
+pub slack_of_spec : {M : Type 1} → statement M
+slack_of_spec =
     tie.close
     (tie.spec
     (λ c. search rules)

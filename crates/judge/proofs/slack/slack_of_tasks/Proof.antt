@@ -4,7 +4,7 @@ use mathlib.Core.Path.{refl, ap, ◌∙◌}
 use lib.ListN.{get_or-replicate}
 use Rattle.edzl.specs.Slack.{Rounds}
 use Rattle.judge.specs.Listed.{Ranges}
-use Rattle.judge.proofs.Listed.{ranges, admits-listed, rounds-same-as, admits-same-as}
+use Rattle.judge.proofs.Listed.{ranges, admits_listed, rounds_same_as, admits_same_as}
 use borrow.Author.Rules.{rules}
 use Rattle.judge.proofs.slack.slack_of_tasks.Statement.{statement}
 use Rattle.judge.proofs.slack.slack_of_tasks.Tie as tie
@@ -41,14 +41,14 @@ returns c =
     let d = w.before.before.before.before.before.before in
     let m = d.before.args.cores in
     let n = d.Numbers-of.result in (
-      l.last-round.ensures.0
-          ∙ ap (λ (r : Rounds). r.made) (rounds-same-as _ _ _ _ _ d.Numbers-of.ensures m),
-      admits-listed d.before.args.count n.periods n.budgets n.deadlines m l.last-round.new.1.1.1.0 _ c.count-by-sums.ensures l.last-round.ensures.1
-          ∙ admits-same-as _ _ _ _ _ d.Numbers-of.ensures m,
+      l.last_round.ensures.0
+          ∙ ap (λ (r : Rounds). r.made) (rounds_same_as _ _ _ _ _ d.Numbers-of.ensures m),
+      admits_listed d.before.args.count n.periods n.budgets n.deadlines m l.last_round.new.1.1.1.0 _ c.count-by-sums.ensures l.last_round.ensures.1
+          ∙ admits_same_as _ _ _ _ _ d.Numbers-of.ensures m,
     )
 
-pub slack-of-tasks-spec : {M : Type 1} → statement M
-slack-of-tasks-spec =
+pub slack_of_tasks_spec : {M : Type 1} → statement M
+slack_of_tasks_spec =
     tie.close
     (tie.spec
     (λ c κs. search rules)

@@ -4,8 +4,8 @@ use native.Mathlib.Omega.{arith}
 use mathlib.Core.Path.{◌≡◌, refl}
 use lib.ListN.{get_or, length, length-set}
 use Rattle.laws.specs.Lists.{replaced}
-use Rattle.laws.proofs.Replaced.{replaced-more, replaced-at, replaced-past}
-use Rattle.judge.specs.Parts.{part, spareAt}
+use Rattle.laws.proofs.Replaced.{replaced_more, replaced_at, replaced_past}
+use Rattle.judge.specs.Parts.{part, spare_at}
 use Rattle.judge.proofs.sums.add_parts.Statement.{statement}
 use Rattle.judge.proofs.sums.add_parts.Tie as tie
 
@@ -13,7 +13,7 @@ abbrev invariant-loop : tie.invariant-loop
 invariant-loop period budget budgets deadlines sums₀ count inverse k₀ sums k =
     (k ≤ count)
     × (length sums ≡ 32)
-    × (sums ≡ replaced k (λ j. get_or sums₀ j 0 + part period budget (get_or deadlines j 0) (spareAt budgets deadlines j)) sums₀)
+    × (sums ≡ replaced k (λ j. get_or sums₀ j 0 + part period budget (get_or deadlines j 0) (spare_at budgets deadlines j)) sums₀)
 
 abbrev decreases-loop : tie.decreases-loop
 decreases-loop period budget budgets deadlines sums₀ count inverse k₀ sums k = count - k
@@ -35,7 +35,7 @@ part-of-requires c κs =
 
 -- The sum of task k has not been added to.
 sum-before : (l : tie.At-loop invariant-loop decreases-loop) → get_or l.loop.sums l.loop.k 0 ≡ get_or l.before.before.args.sums.now l.loop.k 0
-sum-before l = rw l.loop.invariant.2 (replaced-past _ _ 0 l.loop.k l.loop.k (omega arith))
+sum-before l = rw l.loop.invariant.2 (replaced_past _ _ 0 l.loop.k l.loop.k (omega arith))
 
 add-sums : tie.Need-overflow-add-sums invariant-loop decreases-loop
 add-sums c =
@@ -46,15 +46,15 @@ add-sums c =
 loop-again : tie.Need-loop-preserved invariant-loop decreases-loop
 loop-again c =
     let l = c.before.before.before.before.before in
-    (omega arith, simp length-set l.loop.invariant.1, replaced-more _ _ _ l.loop.invariant.2 (omega (arith, c.part_of.ensures, sum-before l)))
+    (omega arith, simp length-set l.loop.invariant.1, replaced_more _ _ _ l.loop.invariant.2 (omega (arith, c.part_of.ensures, sum-before l)))
 
 returns : tie.Need-returns invariant-loop decreases-loop
 returns c =
     let l = c.before.loop in
-    (l.invariant.1, λ k h. rw l.invariant.2 (replaced-at _ _ 0 l.k k (omega arith) (omega arith)))
+    (l.invariant.1, λ k h. rw l.invariant.2 (replaced_at _ _ 0 l.k k (omega arith) (omega arith)))
 
-pub add-parts-spec : {M : Type 1} → statement M
-add-parts-spec =
+pub add_parts_spec : {M : Type 1} → statement M
+add_parts_spec =
     tie.close
     (tie.spec
     invariant-loop

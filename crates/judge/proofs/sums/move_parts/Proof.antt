@@ -5,8 +5,8 @@ use mathlib.Core.Path.{◌≡◌, refl, ◌∙◌}
 use lib.ListN.{get_or, length, length-set}
 use borrow.Author.Rules.{rules}
 use Rattle.laws.specs.Lists.{replaced}
-use Rattle.laws.proofs.Replaced.{replaced-more, replaced-at, replaced-past}
-use Rattle.judge.specs.Parts.{part, spareAt}
+use Rattle.laws.proofs.Replaced.{replaced_more, replaced_at, replaced_past}
+use Rattle.judge.specs.Parts.{part, spare_at}
 use Rattle.judge.proofs.sums.move_parts.Statement.{statement}
 use Rattle.judge.proofs.sums.move_parts.Tie as tie
 
@@ -18,8 +18,8 @@ invariant-loop period budget before slack budgets deadlines sums₀ count invers
     ≡ replaced k
     (λ j.
     get_or sums₀ j 0
-    - part period budget (get_or deadlines j 0 - before) (spareAt budgets deadlines j)
-    + part period budget (get_or deadlines j 0 - slack) (spareAt budgets deadlines j))
+    - part period budget (get_or deadlines j 0 - before) (spare_at budgets deadlines j)
+    + part period budget (get_or deadlines j 0 - slack) (spare_at budgets deadlines j))
     sums₀)
 
 abbrev decreases-loop : tie.decreases-loop
@@ -49,7 +49,7 @@ part-of-requires-2 c κs =
 
 -- The sum of task k is still that before.
 sum-before : (l : tie.At-loop invariant-loop decreases-loop) → get_or l.loop.sums l.loop.k 0 ≡ get_or l.before.before.args.sums.now l.loop.k 0
-sum-before l = rw l.loop.invariant.2 (replaced-past _ _ 0 l.loop.k l.loop.k (omega arith))
+sum-before l = rw l.loop.invariant.2 (replaced_past _ _ 0 l.loop.k l.loop.k (omega arith))
 
 -- The two parts are those of the shortened windows.
 old-part : (c : tie.After-part-of invariant-loop decreases-loop) →
@@ -57,7 +57,7 @@ old-part : (c : tie.After-part-of invariant-loop decreases-loop) →
     let a = l.before.before.args in
     let k = l.loop.k in
     c.part_of.result
-    ≡ part a.period a.budget (get_or a.deadlines.now k 0 - a.before) (spareAt a.budgets.now a.deadlines.now k)
+    ≡ part a.period a.budget (get_or a.deadlines.now k 0 - a.before) (spare_at a.budgets.now a.deadlines.now k)
 old-part c = c.part_of.ensures ∙ rw c.before.saturating-sub.ensures
 
 new-part : (c : tie.After-part-of2 invariant-loop decreases-loop) →
@@ -65,7 +65,7 @@ new-part : (c : tie.After-part-of2 invariant-loop decreases-loop) →
     let a = l.before.before.args in
     let k = l.loop.k in
     c.part-of2.result
-    ≡ part a.period a.budget (get_or a.deadlines.now k 0 - a.slack) (spareAt a.budgets.now a.deadlines.now k)
+    ≡ part a.period a.budget (get_or a.deadlines.now k 0 - a.slack) (spare_at a.budgets.now a.deadlines.now k)
 new-part c = c.part-of2.ensures ∙ rw c.before.saturating-sub2.ensures
 
 sub_sums : tie.Need-overflow-sub-sums invariant-loop decreases-loop
@@ -87,16 +87,16 @@ loop-again c =
     let l = d.before.before.before.before.before.before.before in (
       omega arith,
       simp length-set l.loop.invariant.1,
-      replaced-more _ _ _ l.loop.invariant.2 (rw (sum-before l, old-part d.before.before, new-part d)),
+      replaced_more _ _ _ l.loop.invariant.2 (rw (sum-before l, old-part d.before.before, new-part d)),
     )
 
 returns : tie.Need-returns invariant-loop decreases-loop
 returns c =
     let l = c.before.loop in
-    (l.invariant.1, λ k h. rw l.invariant.2 (replaced-at _ _ 0 l.k k (omega arith) (omega arith)))
+    (l.invariant.1, λ k h. rw l.invariant.2 (replaced_at _ _ 0 l.k k (omega arith) (omega arith)))
 
-pub move-parts-spec : {M : Type 1} → statement M
-move-parts-spec =
+pub move_parts_spec : {M : Type 1} → statement M
+move_parts_spec =
     tie.close
     (tie.spec
     invariant-loop

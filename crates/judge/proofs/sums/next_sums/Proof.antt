@@ -12,17 +12,17 @@ use Rattle.laws.specs.Sums.{sum_to}
 use Rattle.edzl.specs.Window.{spare}
 use Rattle.laws.proofs.SumLaws.{sum_bound}
 use Rattle.judge.specs.Listed.{listed}
-use Rattle.judge.specs.Parts.{part, spareAt}
-use Rattle.judge.proofs.OwnPart.{sum-with-own}
-use Rattle.judge.proofs.Listed.{well-listed}
-use Rattle.judge.proofs.Mixed.{mixed, mixed-none, mixed-all, mixed-next, mixed-part}
+use Rattle.judge.specs.Parts.{part, spare_at}
+use Rattle.judge.proofs.OwnPart.{sum_with_own}
+use Rattle.judge.proofs.Listed.{well_listed}
+use Rattle.judge.proofs.Mixed.{mixed, mixed_none, mixed_all, mixed_next, mixed_part}
 use Rattle.judge.proofs.sums.next_sums.Statement.{statement}
 use Rattle.judge.proofs.sums.next_sums.Tie as tie
 
 -- What task j counts for in the sum of task k, with a slack.
 abbrev partWith : (periods budgets deadlines : List ℕ) (k j slack : ℕ) → ℕ
 partWith periods budgets deadlines k j slack =
-    part (get_or periods j 0) (get_or budgets j 0) (get_or deadlines k 0 - slack) (spareAt budgets deadlines k)
+    part (get_or periods j 0) (get_or budgets j 0) (get_or deadlines k 0 - slack) (spare_at budgets deadlines k)
 
 abbrev invariant-loop : tie.invariant-loop
 invariant-loop periods budgets deadlines before slacks sums₀ count i₀ sums i =
@@ -43,9 +43,9 @@ returns c =
     let s = c.before.before.before in
     let a = s.args in
     let set = listed a.periods.now a.budgets.now a.deadlines.now a.count in
-    let well = well-listed a.count a.periods.now a.budgets.now a.deadlines.now s.requires.1.0 in (
+    let well = well_listed a.count a.periods.now a.budgets.now a.deadlines.now s.requires.1.0 in (
       c.sums-anew.ensures.0,
-      λ k h. c.sums-anew.ensures.1 k h ∙ sym (sum-with-own set well (λ i. get_or a.slacks.now i 0) k h (s.requires.1.1.1 k h)),
+      λ k h. c.sums-anew.ensures.1 k h ∙ sym (sum_with_own set well (λ i. get_or a.slacks.now i 0) k h (s.requires.1.1.1 k h)),
     )
 
 loop-holds : tie.Need-loop-init invariant-loop decreases-loop
@@ -56,7 +56,7 @@ loop-holds c =
       s.requires.0.1,
       λ k h.
           s.requires.1.1.0 k h
-          ∙ sym (mixed-none a.before.now a.slacks.now (partWith a.periods.now a.budgets.now a.deadlines.now k) a.count),
+          ∙ sym (mixed_none a.before.now a.slacks.now (partWith a.periods.now a.budgets.now a.deadlines.now k) a.count),
     )
 
 -- A sum over at most 32 tasks, and the part of task i in it with its old slack.
@@ -74,7 +74,7 @@ within l k h inside =
     record {
       part_in =
           rw (l.loop.invariant.2 k h)
-          (mixed-part a.before.now a.slacks.now partK a.count l.loop.i inside);
+          (mixed_part a.before.now a.slacks.now partK a.count l.loop.i inside);
       sum-small = rw (l.loop.invariant.2 k h) (le_trans (sum_bound _ 1_000_000 a.count (λ j _. omega arith)) (omega (arith, l.before.before.requires.0.0)));
     }
 
@@ -110,8 +110,8 @@ loop-again c =
           (⊎_elim
           (λ w.
           rw w.7
-          (omega (arith, w.6.ensures.1 k h, l.loop.invariant.2 k h, mixed-next a.before.now a.slacks.now (partK k) a.count i (omega arith), (within l k h (omega arith)).part_in)))
-          (λ w. rw w.1 (omega (arith, l.loop.invariant.2 k h, mixed-next a.before.now a.slacks.now (partK k) a.count i (omega arith), ap (partK k i) w.0.left)))
+          (omega (arith, w.6.ensures.1 k h, l.loop.invariant.2 k h, mixed_next a.before.now a.slacks.now (partK k) a.count i (omega arith), (within l k h (omega arith)).part_in)))
+          (λ w. rw w.1 (omega (arith, l.loop.invariant.2 k h, mixed_next a.before.now a.slacks.now (partK k) a.count i (omega arith), ap (partK k i) w.0.left)))
           c.if2.branch),
     )
 
@@ -123,11 +123,11 @@ returns-2 c =
       l.loop.invariant.1,
       λ k h.
           l.loop.invariant.2 k h
-          ∙ rw e (mixed-all a.before.now a.slacks.now (partWith a.periods.now a.budgets.now a.deadlines.now k) a.count),
+          ∙ rw e (mixed_all a.before.now a.slacks.now (partWith a.periods.now a.budgets.now a.deadlines.now k) a.count),
     )
 
-pub next-sums-spec : {M : Type 1} → statement M
-next-sums-spec =
+pub next_sums_spec : {M : Type 1} → statement M
+next_sums_spec =
     tie.close
     (tie.spec
     invariant-loop

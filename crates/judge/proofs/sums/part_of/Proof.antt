@@ -3,7 +3,7 @@ use Prim.Native.Nat.{◌+◌, ◌-◌, ◌*◌, ◌/◌, ◌≤◌, min}
 use native.Mathlib.Omega.{arith}
 use mathlib.Core.Path.{◌≡◌, ◌∙◌}
 use borrow.Author.Rules.{rules}
-use Rattle.judge.proofs.Inverse.{half, product-fits, Guessed, guessed}
+use Rattle.judge.proofs.Inverse.{half, product_fits, Guessed, guessed}
 use Rattle.judge.proofs.sums.part_of.Statement.{statement}
 use Rattle.judge.proofs.sums.part_of.Tie as tie
 
@@ -16,7 +16,7 @@ computed c =
 
 mul-guess : tie.Need-overflow-mul-guess
 mul-guess c =
-    rw c.requires.1 (omega (arith, product-fits c.args.period c.args.budget c.args.window (omega arith) (omega arith) (omega arith)))
+    rw c.requires.1 (omega (arith, product_fits c.args.period c.args.budget c.args.window (omega arith) (omega arith) (omega arith)))
 
 cast-guess : tie.Need-overflow-cast-guess
 cast-guess c = omega (arith, computed c)
@@ -54,10 +54,10 @@ returns c =
     c.min3.result
     ≡ min (guess * a.budget + min a.budget (a.window - guess * a.period) + min a.budget (a.window - guess * a.period - a.period)) a.spare
     = c.min3.ensures ∙ rw (e.min.ensures, d.min2.ensures, f.saturating-sub.ensures) in
-    result ∙ (computed f.before).part-is
+    result ∙ (computed f.before).part_is
 
-pub part-of-spec : {M : Type 1} → statement M
-part-of-spec =
+pub part_of_spec : {M : Type 1} → statement M
+part_of_spec =
     tie.close
     (tie.spec
     mul-guess

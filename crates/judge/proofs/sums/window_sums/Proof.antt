@@ -6,15 +6,15 @@ use native.Mathlib.Numerals.{add-one}
 use native.Mathlib.Omega.{arith}
 use mathlib.Core.Path.{◌≡◌, refl, ap, ◌∙◌}
 use lib.ListN.{length, get_or, replicate}
-use Rattle.laws.proofs.Replaced.{replicate-entry}
+use Rattle.laws.proofs.Replaced.{replicate_entry}
 use Rattle.laws.specs.Sums.{sum_to}
-use Rattle.edzl.specs.Window.{noSlack, windowSum}
+use Rattle.edzl.specs.Window.{no_slack, window_sum}
 use Rattle.laws.proofs.SumLaws.{sum_bound}
-use Rattle.edzl.proofs.WindowLaws.{same-task, sum-of-same}
+use Rattle.edzl.proofs.WindowLaws.{same_task, sum_of_same}
 use Rattle.judge.specs.Listed.{listed}
-use Rattle.judge.specs.Parts.{part, spareAt, ownPart}
-use Rattle.judge.proofs.OwnPart.{window-sum-with-own}
-use Rattle.judge.proofs.Listed.{well-listed}
+use Rattle.judge.specs.Parts.{part, spare_at, own_part}
+use Rattle.judge.proofs.OwnPart.{window_sum_with_own}
+use Rattle.judge.proofs.Listed.{well_listed}
 use Rattle.judge.proofs.sums.window_sums.Statement.{statement}
 use Rattle.judge.proofs.sums.window_sums.Tie as tie
 
@@ -24,7 +24,7 @@ invariant-loop periods budgets deadlines sums₀ count i₀ sums i =
     × (length sums ≡ 32)
     × ((k : ℕ) →
     k < count →
-    get_or sums k 0 ≡ sum_to i (λ j. part (get_or periods j 0) (get_or budgets j 0) (get_or deadlines k 0) (spareAt budgets deadlines k)))
+    get_or sums k 0 ≡ sum_to i (λ j. part (get_or periods j 0) (get_or budgets j 0) (get_or deadlines k 0) (spare_at budgets deadlines k)))
 
 abbrev decreases-loop : tie.decreases-loop
 decreases-loop periods budgets deadlines sums₀ count i₀ sums i = count - i
@@ -34,14 +34,14 @@ sums-anew-requires : tie.Need-sums-anew-requires invariant-loop decreases-loop
 sums-anew-requires c κs = let p = c.before.before.before.requires in (p.0, p.1.0)
 
 returns : tie.Need-returns invariant-loop decreases-loop
-unfolding noSlack
+unfolding no_slack
 returns c =
     let a = c.before.before.before.before.args in
     let set = listed a.periods.now a.budgets.now a.deadlines.now a.count in
-    let none : (k : ℕ) → k < a.count → windowSum set (λ i. get_or (replicate 32 0) i 0) k ≡ windowSum set noSlack k =
-    sum-of-same set set refl (λ i h. same-task set i) noSlack (λ i. get_or (replicate 32 0) i 0) (λ i h. replicate-entry 32 i 0) 0
+    let none : (k : ℕ) → k < a.count → window_sum set (λ i. get_or (replicate 32 0) i 0) k ≡ window_sum set no_slack k =
+    sum_of_same set set refl (λ i h. same_task set i) no_slack (λ i. get_or (replicate 32 0) i 0) (λ i h. replicate_entry 32 i 0) 0
     in
-    (c.sums-anew.ensures.0, λ k h. c.sums-anew.ensures.1 k h ∙ ap (λ (n : ℕ). n + ownPart (get_or a.budgets.now k 0) (get_or a.deadlines.now k 0)) (none k h))
+    (c.sums-anew.ensures.0, λ k h. c.sums-anew.ensures.1 k h ∙ ap (λ (n : ℕ). n + own_part (get_or a.budgets.now k 0) (get_or a.deadlines.now k 0)) (none k h))
 
 loop-holds : tie.Need-loop-init invariant-loop decreases-loop
 unfolding sum_to
@@ -76,11 +76,11 @@ returns-2 c =
     let a = s.args in
     let e : l.loop.i ≡ a.count = omega arith in
     let set = listed a.periods.now a.budgets.now a.deadlines.now a.count in
-    let well = well-listed a.count a.periods.now a.budgets.now a.deadlines.now s.requires.1.0 in
-    (l.loop.invariant.1, λ k h. l.loop.invariant.2 k h ∙ rw e (window-sum-with-own set well k h))
+    let well = well_listed a.count a.periods.now a.budgets.now a.deadlines.now s.requires.1.0 in
+    (l.loop.invariant.1, λ k h. l.loop.invariant.2 k h ∙ rw e (window_sum_with_own set well k h))
 
-pub window-sums-spec : {M : Type 1} → statement M
-window-sums-spec =
+pub window_sums_spec : {M : Type 1} → statement M
+window_sums_spec =
     tie.close
     (tie.spec
     invariant-loop

@@ -10,7 +10,7 @@ use lib.ListN.{get_or}
 use borrow.Author.Rules.{rules}
 use borrow.Author.Tests.{le-leb, lt-leb}
 use Rattle.laws.specs.Sums.{sum_to, bit}
-use Rattle.laws.proofs.SumLaws.{bit-true, bit-false, bit-small}
+use Rattle.laws.proofs.SumLaws.{bit_true, bit_false, bit_small}
 use Rattle.judge.specs.Parts.{needed}
 use Rattle.judge.proofs.urgent.count_by_sums.Statement.{statement}
 use Rattle.judge.proofs.urgent.count_by_sums.Tie as tie
@@ -59,10 +59,10 @@ loop-again c =
     let sum = get_or a.sums.now l.loop.k 0 in
     let counted : c.if1.urgent ≡ l.loop.urgent + bit (leb least-sum sum)
     = ⊎_elim
-    (λ w. omega (arith, w.1, bit-true _ (le-leb least-sum sum (omega (arith, w.0.taken, m.own-part.ensures)))))
-    (λ w. omega (arith, w.1, bit-false _ (lt-leb least-sum sum (omega (arith, w.0.left, m.own-part.ensures)))))
+    (λ w. omega (arith, w.1, bit_true _ (le-leb least-sum sum (omega (arith, w.0.taken, m.own-part.ensures)))))
+    (λ w. omega (arith, w.1, bit_false _ (lt-leb least-sum sum (omega (arith, w.0.left, m.own-part.ensures)))))
     c.if1.branch in
-    (omega arith, rw (add-one l.loop.k) (omega (arith, l.loop.invariant)), omega (arith, l.loop.invariant, bit-small (leb least-sum sum)))
+    (omega arith, rw (add-one l.loop.k) (omega (arith, l.loop.invariant)), omega (arith, l.loop.invariant, bit_small (leb least-sum sum)))
 
 returns : tie.Need-returns invariant-loop decreases-loop
 returns c =
@@ -70,8 +70,8 @@ returns c =
     let e : l.loop.k ≡ l.before.args.count = omega arith in
     l.loop.invariant.1 ∙ rw e
 
-pub count-by-sums-spec : {M : Type 1} → statement M
-count-by-sums-spec =
+pub count_by_sums_spec : {M : Type 1} → statement M
+count_by_sums_spec =
     tie.close
     (tie.spec
     invariant-loop

@@ -3,7 +3,7 @@ use native.Mathlib.Omega.{arith}
 use mathlib.Core.Path.{refl, ◌∙◌}
 use lib.ListN.{get_or-replicate}
 use Rattle.judge.specs.Listed.{Ranges}
-use Rattle.judge.proofs.Listed.{ranges, urgent-listed, urgent-same}
+use Rattle.judge.proofs.Listed.{ranges, urgent_listed, urgent_same}
 use borrow.Author.Rules.{rules}
 use Rattle.judge.proofs.urgent.count_urgent.Statement.{statement}
 use Rattle.judge.proofs.urgent.count_urgent.Tie as tie
@@ -30,11 +30,11 @@ returns c =
     let d = w.before.before.before.before.before.before in
     let m = d.before.args.cores in
     let n = d.Numbers-of.result in
-    urgent-listed d.before.args.count n.periods n.budgets n.deadlines m w.window-sums.new.1.1.1.0 _ c.count-by-sums.ensures w.window-sums.ensures.1
-    ∙ urgent-same _ _ _ _ _ d.Numbers-of.ensures m
+    urgent_listed d.before.args.count n.periods n.budgets n.deadlines m w.window-sums.new.1.1.1.0 _ c.count-by-sums.ensures w.window-sums.ensures.1
+    ∙ urgent_same _ _ _ _ _ d.Numbers-of.ensures m
 
-pub count-urgent-spec : {M : Type 1} → statement M
-count-urgent-spec =
+pub count_urgent_spec : {M : Type 1} → statement M
+count_urgent_spec =
     tie.close
     (tie.spec
     (λ c κs. search rules)

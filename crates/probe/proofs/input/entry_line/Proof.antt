@@ -8,15 +8,15 @@ use borrow.Author.Tests.{not-false}
 use borrow.Author.Rules.{rules}
 use lib.ListN.{take, replicate}
 use lib.Seq.{length-take-le}
-use Rattle.laws.proofs.Booleans.{was-false}
+use Rattle.laws.proofs.Booleans.{was_false}
 use Rattle.text.specs.Fields.{FilledFromLine}
-use Rattle.script.specs.Numbers.{maxDigits, maxNumber}
-use Rattle.probe.proofs.InputLaws.{entry-unended, no-eight, no_flag, entry_read}
+use Rattle.script.specs.Numbers.{max_digits, max_number}
+use Rattle.probe.proofs.InputLaws.{entry_unended, no_eight, no_flag, entry_read}
 use Rattle.probe.proofs.input.entry_line.Statement.{statement}
 use Rattle.probe.proofs.input.entry_line.Tie as tie
 
 returns : tie.Need-returns
-returns c = entry-unended _ _ c.before.find.ensures c.if1.true
+returns c = entry_unended _ _ c.before.find.ensures c.if1.true
 
 slice-aggregate-fill-from-line : tie.Need-slice-aggregate-fill-from-line
 slice-aggregate-fill-from-line c = sym (length-take-le _ _ (le_of_lt c.before.if1.false))
@@ -32,14 +32,14 @@ eight-read :
     (c : tie.Else2)
     → let n = c.before.before in
     let d = line_of n in
-    FilledFromLine maxDigits maxNumber (take d.before.find.result d.before.before.before.args.text.now) (replicate 8 0) (numbers n) true
+    FilledFromLine max_digits max_number (take d.before.find.result d.before.before.before.args.text.now) (replicate 8 0) (numbers n) true
 eight-read c = let n = c.before.before in rw (not-false n.fill-from-line.result c.if2.false) at n.fill-from-line.ensures
 
 returns-2 : tie.Need-returns-2
 returns-2 c =
     let n = c.before.before in
     let d = line_of n in
-    no-eight _ _ d.before.find.ensures d.if1.left (was-false n.fill-from-line.ensures.is c.if2.true)
+    no_eight _ _ d.before.find.ensures d.if1.left (was_false n.fill-from-line.ensures.is c.if2.true)
 
 returns-3 : tie.Need-returns-3
 returns-3 c =
@@ -53,8 +53,8 @@ returns-4 c =
     let d = line_of n in
     entry_read _ _ d.before.find.ensures d.if1.left _ (eight-read c.before) c.if3.false
 
-pub entry-line-spec : {M : Type 1} → statement M
-entry-line-spec =
+pub entry_line_spec : {M : Type 1} → statement M
+entry_line_spec =
     tie.close
     (tie.spec
     (λ c κs. search rules)

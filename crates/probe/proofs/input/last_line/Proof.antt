@@ -4,12 +4,12 @@ use native.Mathlib.Omega.{arith}
 use mathlib.Core.Path.{sym, ◌∙◌}
 use borrow.Author.Rules.{rules}
 use lib.Seq.{length-take-le}
-use Rattle.probe.proofs.InputLaws.{call-unended, no_call, more-follows, call-read}
+use Rattle.probe.proofs.InputLaws.{call_unended, no_call, more_follows, call_read}
 use Rattle.probe.proofs.input.last_line.Statement.{statement}
 use Rattle.probe.proofs.input.last_line.Tie as tie
 
 returns : tie.Need-returns
-returns c = call-unended _ _ c.before.find.ensures c.if1.true
+returns c = call_unended _ _ c.before.find.ensures c.if1.true
 
 slice-aggregate-call-line : tie.Need-slice-aggregate-call-line
 slice-aggregate-call-line c = sym (length-take-le _ _ (le_of_lt c.before.if1.false))
@@ -25,17 +25,17 @@ returns-3 c =
     let r = c.before.before in
     let l = r.before.before in
     let d = l.before.before in
-    more-follows _ _ d.before.find.ensures d.if1.false _ (sym l.call_line.ensures ∙ r.call.given.1) c.if2.true
+    more_follows _ _ d.before.find.ensures d.if1.false _ (sym l.call_line.ensures ∙ r.call.given.1) c.if2.true
 
 returns-4 : tie.Need-returns-4
 returns-4 c =
     let r = c.before.before in
     let l = r.before.before in
     let d = l.before.before in
-    call-read _ _ d.before.find.ensures d.if1.false _ (sym l.call_line.ensures ∙ r.call.given.1) c.if2.false
+    call_read _ _ d.before.find.ensures d.if1.false _ (sym l.call_line.ensures ∙ r.call.given.1) c.if2.false
 
-pub last-line-spec : {M : Type 1} → statement M
-last-line-spec =
+pub last_line_spec : {M : Type 1} → statement M
+last_line_spec =
     tie.close
     (tie.spec
     (λ c κs. search rules)

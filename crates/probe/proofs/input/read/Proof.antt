@@ -1,18 +1,18 @@
 -- `read` meets its contract: by the first line, and then by those after it.
 use mathlib.Core.Path.{sym, ◌∙◌}
 use borrow.Author.Rules.{rules}
-use Rattle.probe.proofs.PrintedLaws.{no-machine, MachineIs, machine-is}
+use Rattle.probe.proofs.PrintedLaws.{no_machine, MachineIs, machine_is}
 use Rattle.probe.proofs.input.read.Statement.{statement}
 use Rattle.probe.proofs.input.read.Tie as tie
 
 returns : tie.Need-returns
-returns c = let t = c.before in no-machine _ _ (sym t.before.before.first-line.ensures ∙ t.enum_told.given.1)
+returns c = let t = c.before in no_machine _ _ (sym t.before.before.first-line.ensures ∙ t.enum_told.given.1)
 
 -- what the first line says
 first-line :
     (c : tie.After-count)
     → MachineIs c.before.before.before.before.args.text.now c.count.given.0.0 c.count.given.0.1.0 c.count.given.0.1.1.0
-first-line c = machine-is _ _ _ _ (sym c.before.before.first-line.ensures ∙ c.count.given.1)
+first-line c = machine_is _ _ _ _ (sym c.before.before.first-line.ensures ∙ c.count.given.1)
 
 sub-read-entries : tie.Need-overflow-sub-read-entries
 sub-read-entries c = (first-line c.before).within

@@ -5,10 +5,10 @@ use mathlib.Core.Path.{◌≡◌, sym, ◌∙◌}
 use borrow.Author.Rules.{rules}
 use lib.ListN.{length}
 use Rattle.laws.proofs.Parts.{from}
-use Rattle.tasks.specs.Limits.{maxTasks}
-use Rattle.probe.specs.Input.{entryFrom}
+use Rattle.tasks.specs.Limits.{max_tasks}
+use Rattle.probe.specs.Input.{entry_from}
 use Rattle.probe.specs.declared.input.EntryLine.TheVariants.{Read}
-use Rattle.probe.proofs.Filling.{Filling, fill_none, filled, no-entry, fits, fill_more}
+use Rattle.probe.proofs.Filling.{Filling, fill_none, filled, no_entry, fits, fill_more}
 use Rattle.probe.proofs.input.read_entries.Statement.{statement}
 use Rattle.probe.proofs.input.read_entries.Tie as tie
 
@@ -16,7 +16,7 @@ abbrev invariant-loop : tie.invariant-loop
 invariant-loop text machine₀ at₀ i₀ machine at i = Filling machine₀ text machine at i
 
 abbrev decreases-loop : tie.decreases-loop
-decreases-loop text machine₀ at₀ i₀ machine at i = maxTasks - i
+decreases-loop text machine₀ at₀ i₀ machine at i = max_tasks - i
 
 loop-holds : tie.Need-loop-init invariant-loop decreases-loop
 loop-holds c = fill_none _ _
@@ -34,7 +34,7 @@ returns : tie.Need-returns invariant-loop decreases-loop
 returns c =
     let n = c.before.before in
     let t = n.before.before in
-    no-entry _ _ _ _ _ t.before.loop.invariant t.loop-test.true (sym n.entry-line.ensures ∙ c.enum_told.given.1)
+    no_entry _ _ _ _ _ t.before.loop.invariant t.loop-test.true (sym n.entry-line.ensures ∙ c.enum_told.given.1)
 
 -- the entry of a line
 abbrev in-loop : tie.After-task invariant-loop decreases-loop → tie.In-loop invariant-loop decreases-loop
@@ -43,15 +43,15 @@ in-loop c = c.before.before.before.before
 abbrev at-loop : tie.After-task invariant-loop decreases-loop → tie.At-loop invariant-loop decreases-loop
 at-loop c = (in-loop c).before
 
-entry-is :
+entry_is :
     (c : tie.After-task invariant-loop decreases-loop)
     → let l = at-loop c in
-    entryFrom (from l.before.before.args.text.now l.loop.at) ≡ Read c.task.given.0.0 c.task.given.0.1.0 c.task.given.0.1.1.0 c.task.given.0.1.1.1.0
-entry-is c = sym c.before.before.entry-line.ensures ∙ c.task.given.1
+    entry_from (from l.before.before.args.text.now l.loop.at) ≡ Read c.task.given.0.0 c.task.given.0.1.0 c.task.given.0.1.1.0 c.task.given.0.1.1.1.0
+entry_is c = sym c.before.before.entry-line.ensures ∙ c.task.given.1
 
 entry-fits :
     (c : tie.After-task invariant-loop decreases-loop) → let l = at-loop c in l.loop.at + c.task.given.0.1.1.1.0 ≤ length l.before.before.args.text.now
-entry-fits c = fits _ _ _ _ _ (at-loop c).loop.invariant (in-loop c).loop-test.true _ _ _ _ (entry-is c)
+entry-fits c = fits _ _ _ _ _ (at-loop c).loop.invariant (in-loop c).loop-test.true _ _ _ _ (entry_is c)
 
 with-entry-requires : tie.Need-with-entry-requires invariant-loop decreases-loop
 with-entry-requires c κs = c.before.before.before.before.before.loop-test.true
@@ -69,7 +69,7 @@ loop-again : tie.Need-loop-preserved invariant-loop decreases-loop
 loop-again c =
     let k = c.before.before in
     let t = at-loop k in
-    rw c.with-entry.ensures (fill_more _ _ _ _ _ t.loop.inv (in-loop k).loop-test.true _ _ _ _ (entry-is k))
+    rw c.with-entry.ensures (fill_more _ _ _ _ _ t.loop.inv (in-loop k).loop-test.true _ _ _ _ (entry_is k))
 
 sub-read-held : tie.Need-overflow-sub-read-held invariant-loop decreases-loop
 sub-read-held c = c.before.loop.invariant.within
@@ -82,8 +82,8 @@ returns-2 c =
     let t = c.before.before in
     filled _ _ _ _ _ t.before.loop.invariant t.loop-test.false _ c.read_held.ensures
 
-pub read-entries-spec : {M : Type 1} → statement M
-read-entries-spec =
+pub read_entries_spec : {M : Type 1} → statement M
+read_entries_spec =
     tie.close
     (tie.spec
     invariant-loop

@@ -2,12 +2,12 @@
 use Prim.Native.Nat.{◌-◌}
 use native.Mathlib.Omega.{arith}
 use borrow.Author.Rules.{rules}
-use Rattle.text.proofs.Putting.{put-size}
-use Rattle.tasks.specs.Limits.{maxTasks}
-use Rattle.tasks.specs.Table.{zeroTask}
-use Rattle.job.specs.Job.{freshJob}
-use Rattle.machine.specs.Machine.{taskAt, jobAt, coreAt}
-use Rattle.probe.proofs.Showing.{Showing, show-none, show-more, show-all}
+use Rattle.text.proofs.Putting.{put_size}
+use Rattle.tasks.specs.Limits.{max_tasks}
+use Rattle.tasks.specs.Table.{zero_task}
+use Rattle.job.specs.Job.{fresh_job}
+use Rattle.machine.specs.Machine.{task_at, job_at, core_at}
+use Rattle.probe.proofs.Showing.{Showing, show_none, show_more, show_all}
 use Rattle.probe.proofs.output.put_entries.Statement.{statement}
 use Rattle.probe.proofs.output.put_entries.Tie as tie
 
@@ -15,26 +15,26 @@ abbrev invariant-loop : tie.invariant-loop
 invariant-loop output₀ used machine table at₀ i₀ output at i = Showing output₀ used machine output at i
 
 abbrev decreases-loop : tie.decreases-loop
-decreases-loop output₀ used machine table at₀ i₀ output at i = maxTasks - i
+decreases-loop output₀ used machine table at₀ i₀ output at i = max_tasks - i
 
 loop-holds : tie.Need-loop-init invariant-loop decreases-loop
-loop-holds c = show-none _ _ _
+loop-holds c = show_none _ _ _
 
 loop-again : tie.Need-loop-preserved invariant-loop decreases-loop
-unfolding taskAt jobAt coreAt zeroTask freshJob
+unfolding task_at job_at core_at zero_task fresh_job
 loop-again c =
     let p = c.before.before in
     let t = p.before.before.before.before.before in
-    show-more _ _ _ _ _ _ t.before.loop.invariant t.loop-test.true _ _ p.put-entry.ensures
+    show_more _ _ _ _ _ _ t.before.loop.invariant t.loop-test.true _ _ p.put-entry.ensures
 
 same_length : tie.Need-same-length invariant-loop decreases-loop
-same_length c = put-size _ _ _ _ _ c.before.loop.invariant.left.put
+same_length c = put_size _ _ _ _ _ c.before.loop.invariant.left.put
 
 returns : tie.Need-returns invariant-loop decreases-loop
-returns c = show-all _ _ _ _ _ _ c.before.loop.invariant c.loop-test.false
+returns c = show_all _ _ _ _ _ _ c.before.loop.invariant c.loop-test.false
 
-pub put-entries-spec : {M : Type 1} → statement M
-put-entries-spec =
+pub put_entries_spec : {M : Type 1} → statement M
+put_entries_spec =
     tie.close
     (tie.spec
     invariant-loop

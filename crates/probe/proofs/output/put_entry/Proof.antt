@@ -2,24 +2,24 @@
 use Prim.Native.Nat.{◌≤◌}
 use borrow.Author.Rules.{rules}
 use lib.ListN.{length}
-use Rattle.laws.proofs.Booleans.{bool-byte}
-use Rattle.probe.specs.Output.{entryLine, entryRoom}
-use Rattle.probe.proofs.Showing.{entry-few}
+use Rattle.laws.proofs.Booleans.{bool_byte_lem}
+use Rattle.probe.specs.Output.{entry_line, entry_room}
+use Rattle.probe.proofs.Showing.{entry_few}
 use Rattle.probe.proofs.output.put_entry.Statement.{statement}
 use Rattle.probe.proofs.output.put_entry.Tie as tie
 
-few : (c : tie.Start) → length (entryLine c.args.task c.args.job c.args.core) ≤ entryRoom
-few c = entry-few c.args.task c.args.job c.args.core (search rules) (search rules) (search rules) (search rules) (search rules) (search rules) (search rules)
+few : (c : tie.Start) → length (entry_line c.args.task c.args.job c.args.core) ≤ entry_room
+few c = entry_few c.args.task c.args.job c.args.core (search rules) (search rules) (search rules) (search rules) (search rules) (search rules) (search rules)
 
 returns : tie.Need-returns
-unfolding entryLine
+unfolding entry_line
 returns c =
     let n = c.before.before in
     let s = n.before.before.before.before.before.before.before.before.before.before.before in
-    record { put = rw (← bool-byte s.args.job.«open») n.put-numbers.ensures; few = few s }
+    record { put = rw (← bool_byte_lem s.args.job.«open») n.put-numbers.ensures; few = few s }
 
-pub put-entry-spec : {M : Type 1} → statement M
-put-entry-spec =
+pub put_entry_spec : {M : Type 1} → statement M
+put_entry_spec =
     tie.close
     (tie.spec
     (λ c. search rules)

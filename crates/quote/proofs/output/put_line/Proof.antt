@@ -1,12 +1,12 @@
 -- `put_line` meets its contract: the number of cores, a space and the answer, one after the other.
 use borrow.Author.Rules.{rules}
 use Rattle.text.proofs.Putting.{put_then}
-use Rattle.quote.specs.Printed.{quoteLine}
+use Rattle.quote.specs.Printed.{quote_line}
 use Rattle.quote.proofs.output.put_line.Statement.{statement}
 use Rattle.quote.proofs.output.put_line.Tie as tie
 
 returns : tie.Need-returns
-unfolding quoteLine
+unfolding quote_line
 returns c =
     let a = c.before.before in
     let s = a.before.before.before.before in
@@ -14,8 +14,8 @@ returns c =
     rw (← n.before.before.judge-ranges.ensures.0)
     (put_then _ _ _ _ _ n.put-number.ensures _ _ _ (put_then _ _ _ _ _ s.put.ensures _ _ _ a.put-answer.ensures))
 
-pub put-line-spec : {M : Type 1} → statement M
-put-line-spec =
+pub put_line_spec : {M : Type 1} → statement M
+put_line_spec =
     tie.close
     (tie.spec
     (λ c κs. search rules)

@@ -5,22 +5,22 @@ use native.Mathlib.Omega.{arith}
 use mathlib.Core.Path.{◌≡◌, ◌∙◌}
 use borrow.Author.Rules.{rules}
 use Rattle.text.specs.Output.{Put}
-use Rattle.text.proofs.Putting.{put-none, put_then, put-size}
-use Rattle.tasks.specs.Limits.{maxCores}
-use Rattle.lines.specs.Printed.{linesUpTo}
-use Rattle.quote.specs.Printed.{header, quoteLine}
+use Rattle.text.proofs.Putting.{put_none, put_then, put_size}
+use Rattle.tasks.specs.Limits.{max_cores}
+use Rattle.lines.specs.Printed.{lines_up_to}
+use Rattle.quote.specs.Printed.{header, quote_line}
 use Rattle.quote.proofs.output.put_lines.Statement.{statement}
 use Rattle.quote.proofs.output.put_lines.Tie as tie
 
 abbrev invariant-loop : tie.invariant-loop
-invariant-loop output₀ table last used₀ cores₀ output used cores = (cores ≤ last) × Put output₀ used₀ (linesUpTo (quoteLine table) cores) output used
+invariant-loop output₀ table last used₀ cores₀ output used cores = (cores ≤ last) × Put output₀ used₀ (lines_up_to (quote_line table) cores) output used
 
 abbrev decreases-loop : tie.decreases-loop
 decreases-loop output₀ table last used₀ cores₀ output used cores = last - cores
 
 loop-holds : tie.Need-loop-init invariant-loop decreases-loop
-unfolding linesUpTo
-loop-holds c = (omega arith, put-none _ _)
+unfolding lines_up_to
+loop-holds c = (omega arith, put_none _ _)
 
 -- where the lines begin
 abbrev begun : tie.At-loop invariant-loop decreases-loop → tie.After-put invariant-loop decreases-loop
@@ -34,7 +34,7 @@ add-cores : tie.Need-overflow-add-cores invariant-loop decreases-loop
 add-cores c = omega (arith, (asked c.before).last-cores.ensures)
 
 loop-again : tie.Need-loop-preserved invariant-loop decreases-loop
-unfolding linesUpTo
+unfolding lines_up_to
 loop-again c =
     let p = c.before.before in
     let l = p.before.before.before in
@@ -43,17 +43,17 @@ loop-again c =
 same_length : tie.Need-same-length invariant-loop decreases-loop
 same_length c =
     let l = c.before in
-    put-size _ _ _ _ _ l.loop.invariant.1 ∙ put-size _ _ _ _ _ (begun l).put.ensures
+    put_size _ _ _ _ _ l.loop.invariant.1 ∙ put_size _ _ _ _ _ (begun l).put.ensures
 
 returns : tie.Need-returns invariant-loop decreases-loop
 unfolding header
 returns c =
     let l = c.before in
-    let e : l.loop.cores ≡ min maxCores (asked l).before.before.args.table.count = omega (arith, (asked l).last-cores.ensures) in
+    let e : l.loop.cores ≡ min max_cores (asked l).before.before.args.table.count = omega (arith, (asked l).last-cores.ensures) in
     rw (← e) (put_then _ _ _ _ _ (begun l).put.ensures _ _ _ l.loop.invariant.1)
 
-pub put-lines-spec : {M : Type 1} → statement M
-put-lines-spec =
+pub put_lines_spec : {M : Type 1} → statement M
+put_lines_spec =
     tie.close
     (tie.spec
     invariant-loop

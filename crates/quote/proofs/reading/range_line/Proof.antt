@@ -4,7 +4,7 @@ use mathlib.Core.Path.{sym}
 use borrow.Author.Rules.{rules}
 use borrow.Author.Tests.{not-false}
 use lib.Seq.{length-take-le}
-use Rattle.laws.proofs.Booleans.{was-false}
+use Rattle.laws.proofs.Booleans.{was_false}
 use Rattle.quote.proofs.RangeLine.{unended, not_five, line_read}
 use Rattle.quote.proofs.reading.range_line.Statement.{statement}
 use Rattle.quote.proofs.reading.range_line.Tie as tie
@@ -23,7 +23,7 @@ returns-2 : tie.Need-returns-2
 returns-2 c =
     let n = c.before.before in
     let d = line_of n in
-    not_five _ _ d.before.find.ensures d.if1.left (was-false n.fill-from-line.ensures.is c.if2.true)
+    not_five _ _ d.before.find.ensures d.if1.left (was_false n.fill-from-line.ensures.is c.if2.true)
 
 returns-3 : tie.Need-returns-3
 returns-3 c =
@@ -31,8 +31,8 @@ returns-3 c =
     let d = line_of n in
     line_read _ _ d.before.find.ensures d.if1.left _ (rw (not-false n.fill-from-line.result c.if2.false) at n.fill-from-line.ensures)
 
-pub range-line-spec : {M : Type 1} → statement M
-range-line-spec =
+pub range_line_spec : {M : Type 1} → statement M
+range_line_spec =
     tie.close
     (tie.spec
     (λ c κs. search rules)

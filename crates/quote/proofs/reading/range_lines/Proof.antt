@@ -3,16 +3,16 @@ use native.Mathlib.Omega.{arith}
 use mathlib.Core.Path.{sym, ◌∙◌}
 use borrow.Author.Rules.{rules}
 use lib.ListN.{length}
-use Rattle.tasks.specs.Limits.{maxTasks}
-use Rattle.ranges.specs.Ranges.{emptyRanges}
-use Rattle.quote.specs.Reading.{rangeLines}
-use Rattle.quote.proofs.RangeLine.{LineRead, line-is, line-broken}
-use Rattle.quote.proofs.RangeLines.{Reading-on, begin, no-task, finish, too_many, bad-line, bad-task, shorter, next}
+use Rattle.tasks.specs.Limits.{max_tasks}
+use Rattle.ranges.specs.Ranges.{empty_ranges}
+use Rattle.quote.specs.Reading.{range_lines}
+use Rattle.quote.proofs.RangeLine.{LineRead, line_is, line_broken}
+use Rattle.quote.proofs.RangeLines.{ReadingOn, begin, no_task_lem, finish, too_many, bad_line_lem, bad_task, shorter, next}
 use Rattle.quote.proofs.reading.range_lines.Statement.{statement}
 use Rattle.quote.proofs.reading.range_lines.Tie as tie
 
 abbrev invariant-loop : tie.invariant-loop
-invariant-loop text table₀ rest₀ table rest = Reading-on (rangeLines maxTasks emptyRanges text) table rest
+invariant-loop text table₀ rest₀ table rest = ReadingOn (range_lines max_tasks empty_ranges text) table rest
 
 abbrev decreases-loop : tie.decreases-loop
 decreases-loop text table₀ rest₀ table rest = length rest
@@ -32,7 +32,7 @@ returns-2 c =
     let d = e.before.before in
     let l = d.before.before in
     c.refused-reading2.ensures
-    ∙ bad-line _ _ _ l.before.loop.invariant l.loop-test.true d.before.if1.false (line-broken _ (sym d.range-line.ensures ∙ e.enum_told.given.1))
+    ∙ bad_line_lem _ _ _ l.before.loop.invariant l.loop-test.true d.before.if1.false (line_broken _ (sym d.range-line.ensures ∙ e.enum_told.given.1))
 
 -- where a line is looked for, and the line that was read
 abbrev looked : tie.After-known-told invariant-loop decreases-loop → tie.Else1 invariant-loop decreases-loop
@@ -41,7 +41,7 @@ looked c = c.before.before.before.before
 line :
     (c : tie.After-known-told invariant-loop decreases-loop)
     → LineRead (looked c).before.before.loop.rest.now c.before.task.given.0.0 c.before.task.given.0.1.0
-line c = line-is _ _ _ (sym c.before.before.before.range-line.ensures ∙ c.before.task.given.1)
+line c = line_is _ _ _ (sym c.before.before.before.range-line.ensures ∙ c.before.task.given.1)
 
 returns-3 : tie.Need-returns-3 invariant-loop decreases-loop
 returns-3 c =
@@ -50,7 +50,7 @@ returns-3 c =
     let d = looked k.before in
     let l = d.before in
     c.refused-reading3.ensures
-    ∙ bad-task _ _ _ l.before.loop.inv l.loop-test.taken d.if1.left _ _ (line k.before) _ _ (sym k.check.ensures ∙ n.number.given.1)
+    ∙ bad_task _ _ _ l.before.loop.inv l.loop-test.taken d.if1.left _ _ (line k.before) _ _ (sym k.check.ensures ∙ n.number.given.1)
 
 -- where a task was found in order
 abbrev found : tie.After-with-task invariant-loop decreases-loop → tie.After-known-told invariant-loop decreases-loop
@@ -82,15 +82,15 @@ loop-again c =
 returns-4 : tie.Need-returns-4 invariant-loop decreases-loop
 returns-4 c =
     let l = c.before.before.before in
-    c.refused-reading4.ensures ∙ no-task _ _ _ l.before.loop.invariant l.loop-test.false c.before.if2.true
+    c.refused-reading4.ensures ∙ no_task_lem _ _ _ l.before.loop.invariant l.loop-test.false c.before.if2.true
 
 returns-5 : tie.Need-returns-5 invariant-loop decreases-loop
 returns-5 c =
     let l = c.before.before in
     finish _ _ _ l.before.loop.invariant l.loop-test.false c.if2.false
 
-pub range-lines-spec : {M : Type 1} → statement M
-range-lines-spec =
+pub range_lines_spec : {M : Type 1} → statement M
+range_lines_spec =
     tie.close
     (tie.spec
     invariant-loop

@@ -3,8 +3,8 @@ use native.Mathlib.Nat.{le_of_lt}
 use mathlib.Core.Path.{sym, ◌∙◌}
 use borrow.Author.Rules.{rules}
 use lib.Seq.{length-take-le}
-use Rattle.laws.proofs.Booleans.{was-true, was-false}
-use Rattle.quote.proofs.NamesLine.{too_long, names-unended, not-names, names-read}
+use Rattle.laws.proofs.Booleans.{was_true, was_false}
+use Rattle.quote.proofs.NamesLine.{too_long, names_unended, not_names, names_read}
 use Rattle.quote.proofs.reading.read.Statement.{statement}
 use Rattle.quote.proofs.reading.read.Tie as tie
 
@@ -14,7 +14,7 @@ returns c = c.refused-reading.ensures ∙ too_long _ c.before.if1.true
 returns-2 : tie.Need-returns-2
 returns-2 c =
     let f = c.before.before in
-    c.refused-reading2.ensures ∙ names-unended _ f.before.if1.false _ f.find.ensures c.before.if2.true
+    c.refused-reading2.ensures ∙ names_unended _ f.before.if1.false _ f.find.ensures c.before.if2.true
 
 -- where the line ends
 abbrev line_of : tie.After-same → tie.Else2
@@ -29,7 +29,7 @@ returns-3 c =
     let d = line_of n in
     let f = d.before in
     c.refused-reading3.ensures
-    ∙ not-names _ f.before.if1.left _ f.find.ensures d.if2.left (was-false n.same.ensures c.before.if3.true)
+    ∙ not_names _ f.before.if1.left _ f.find.ensures d.if2.left (was_false n.same.ensures c.before.if3.true)
 
 returns-4 : tie.Need-returns-4
 returns-4 c =
@@ -38,7 +38,7 @@ returns-4 c =
     let d = line_of n in
     let f = d.before in
     c.range-lines.ensures
-    ∙ names-read _ f.before.if1.left _ f.find.ensures d.if2.left (was-true n.same.ensures e.if3.false)
+    ∙ names_read _ f.before.if1.left _ f.find.ensures d.if2.left (was_true n.same.ensures e.if3.false)
 
 pub read_spec : {M : Type 1} → statement M
 read_spec =

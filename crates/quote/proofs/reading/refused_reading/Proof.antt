@@ -8,5 +8,5 @@ returns : tie.Need-returns
 unfolding refused
 returns c = rw c.empty.ensures
 
-pub refused-reading-spec : {M : Type 1} → statement M
-refused-reading-spec = tie.close (tie.spec (λ c κs. search rules) returns)
+pub refused_reading_spec : {M : Type 1} → statement M
+refused_reading_spec = tie.close (tie.spec (λ c κs. search rules) returns)

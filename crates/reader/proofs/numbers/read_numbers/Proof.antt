@@ -1,6 +1,6 @@
 -- `read_numbers` meets its contract: the arrays are as they were filled, or cleared again after a refusal.
 use borrow.Author.Rules.{rules}
-use Rattle.reader.proofs.NumbersRead.{answer-is, lists-are, zeros-are}
+use Rattle.reader.proofs.NumbersRead.{answer_is, lists_are, zeros_are}
 use Rattle.reader.proofs.numbers.read_numbers.Statement.{statement}
 use Rattle.reader.proofs.numbers.read_numbers.Tie as tie
 
@@ -9,20 +9,20 @@ returns c =
     let f = c.before.before in
     let l = f.fill.ensures.1 in
     let n =
-    lists-are _ _ _ _ _ _ c.enum_told.given.1 (record { periods-long = l.0; budgets-long = l.1; deadlines-long = l.2 }) f.fill.ensures.0
+    lists_are _ _ _ _ _ _ c.enum_told.given.1 (record { periods_long = l.0; budgets_long = l.1; deadlines_long = l.2 }) f.fill.ensures.0
     in
-    (answer-is _ _ _ f.fill.ensures.0, (n.periods, (n.budgets, n.deadlines)))
+    (answer_is _ _ _ f.fill.ensures.0, (n.periods, (n.budgets, n.deadlines)))
 
 returns-2 : tie.Need-returns-2
 returns-2 c =
     let told = c.before.before.before.before in
     let f = told.before.before in
     let z = c.clear2.ensures in
-    let n = zeros-are _ _ _ _ _ told.enum-told2.given.1 f.fill.ensures.0 _ _ _ z.0 z.1 z.2 in
-    (answer-is _ _ _ f.fill.ensures.0, (n.periods, (n.budgets, n.deadlines)))
+    let n = zeros_are _ _ _ _ _ told.enum-told2.given.1 f.fill.ensures.0 _ _ _ z.0 z.1 z.2 in
+    (answer_is _ _ _ f.fill.ensures.0, (n.periods, (n.budgets, n.deadlines)))
 
-pub read-numbers-spec : {M : Type 1} → statement M
-read-numbers-spec =
+pub read_numbers_spec : {M : Type 1} → statement M
+read_numbers_spec =
     tie.close
     (tie.spec
     (λ c κs. tt)

@@ -4,18 +4,18 @@ use native.Mathlib.Omega.{arith}
 use mathlib.Core.Path.{◌≡◌, refl, ap}
 use borrow.Author.Rules.{rules}
 use lib.ListN.{length}
-use Rattle.laws.proofs.Booleans.{was-true, was-false}
-use Rattle.tasks.specs.Limits.{maxTasks}
-use Rattle.tasks.specs.Table.{emptyTable}
-use Rattle.reader.specs.Reading.{valueLines}
-use Rattle.reader.proofs.ValueLine.{Answer, LineRead, line_read, line-broken}
-use Rattle.reader.proofs.ValueLines.{Reading-on, begin, no-task, finish, too_many, bad-line, bad-task, shorter, next}
+use Rattle.laws.proofs.Booleans.{was_true, was_false}
+use Rattle.tasks.specs.Limits.{max_tasks}
+use Rattle.tasks.specs.Table.{empty_table}
+use Rattle.reader.specs.Reading.{value_lines}
+use Rattle.reader.proofs.ValueLine.{Answer, LineRead, line_read, line_broken}
+use Rattle.reader.proofs.ValueLines.{ReadingOn, begin, no_task_lem, finish, too_many, bad_line_lem, bad_task, shorter, next}
 use Rattle.reader.proofs.numbers.value_lines.Statement.{statement}
 use Rattle.reader.proofs.numbers.value_lines.Tie as tie
 
 abbrev invariant-loop : tie.invariant-loop
 invariant-loop text columns periods₀ budgets₀ deadlines₀ line₀ count₀ rest₀ periods budgets deadlines line count rest =
-    Reading-on columns (valueLines columns maxTasks emptyTable text) periods budgets deadlines count rest × (length line ≡ 3)
+    ReadingOn columns (value_lines columns max_tasks empty_table text) periods budgets deadlines count rest × (length line ≡ 3)
 
 abbrev decreases-loop : tie.decreases-loop
 decreases-loop text columns periods₀ budgets₀ deadlines₀ line₀ count₀ rest₀ periods budgets deadlines line count rest = length rest
@@ -28,7 +28,7 @@ returns c =
     let l = c.before.before.before in
     let f = l.loop.invariant.0.long in (
       too_many _ _ _ _ _ _ _ l.loop.invariant.0 c.before.before.loop-test.true (omega (arith, c.before.if1.true)) _ c.refusal.ensures,
-      (f.periods-long, f.budgets-long, f.deadlines-long),
+      (f.periods_long, f.budgets_long, f.deadlines_long),
     )
 
 -- where a line is looked for
@@ -45,8 +45,8 @@ returns-2 c =
     let d = looked v in
     let l = d.before.before in
     let f = l.loop.inv.0.long in (
-      bad-line _ _ _ _ _ _ _ l.loop.inv.0 d.before.loop-test.taken d.if1.left (line-broken _ _ _ (answer v) c.before.if2.true) _ c.refusal2.ensures,
-      (f.periods-long, f.budgets-long, f.deadlines-long),
+      bad_line_lem _ _ _ _ _ _ _ l.loop.inv.0 d.before.loop-test.taken d.if1.left (line_broken _ _ _ (answer v) c.before.if2.true) _ c.refusal2.ensures,
+      (f.periods_long, f.budgets_long, f.deadlines_long),
     )
 
 -- the line that was read, with its task
@@ -66,13 +66,13 @@ returns-3 c =
     let d = looked (read t) in
     let l = d.before.before in
     let f = l.loop.inv.0.long in (
-      bad-task _ _ _ _ _ _ _ l.loop.inv.0 d.before.loop-test.taken d.if1.left _ _ (line t)
-          (was-false c.before.before.in-range.ensures c.before.if3.true) _ c.refusal3.ensures,
-      (f.periods-long, f.budgets-long, f.deadlines-long),
+      bad_task _ _ _ _ _ _ _ l.loop.inv.0 d.before.loop-test.taken d.if1.left _ _ (line t)
+          (was_false c.before.before.in_range_lem.ensures c.before.if3.true) _ c.refusal3.ensures,
+      (f.periods_long, f.budgets_long, f.deadlines_long),
     )
 
 -- there is a place for the task
-place : (c : tie.Else3 invariant-loop decreases-loop) → (looked (read c.before.before)).before.before.loop.count < maxTasks
+place : (c : tie.Else3 invariant-loop decreases-loop) → (looked (read c.before.before)).before.before.loop.count < max_tasks
 place c = (looked (read c.before.before)).if1.left
 
 sub-rest : tie.Need-overflow-sub-rest invariant-loop decreases-loop
@@ -94,7 +94,7 @@ loop-again c =
     let t = e.before.before in
     let d = looked (read t) in
     let l = d.before.before in (
-      next _ _ _ _ _ _ _ l.loop.inv.0 d.before.loop-test.taken d.if1.left _ _ (line t) (was-true e.before.in-range.ensures e.if3.false),
+      next _ _ _ _ _ _ _ l.loop.inv.0 d.before.loop-test.taken d.if1.left _ _ (line t) (was_true e.before.in_range_lem.ensures e.if3.false),
       ap length ((answer (read t)).values (line t).is),
     )
 
@@ -102,18 +102,18 @@ returns-4 : tie.Need-returns-4 invariant-loop decreases-loop
 returns-4 c =
     let l = c.before.before.before in
     let f = l.loop.invariant.0.long in (
-      no-task _ _ _ _ _ _ _ l.loop.invariant.0 c.before.before.loop-test.false c.before.if4.true _ c.refusal4.ensures,
-      (f.periods-long, f.budgets-long, f.deadlines-long),
+      no_task_lem _ _ _ _ _ _ _ l.loop.invariant.0 c.before.before.loop-test.false c.before.if4.true _ c.refusal4.ensures,
+      (f.periods_long, f.budgets_long, f.deadlines_long),
     )
 
 returns-5 : tie.Need-returns-5 invariant-loop decreases-loop
 returns-5 c =
     let l = c.before.before in
     let f = l.loop.invariant.0.long in
-    (finish _ _ _ _ _ _ _ l.loop.invariant.0 c.before.loop-test.false c.if4.false, (f.periods-long, f.budgets-long, f.deadlines-long))
+    (finish _ _ _ _ _ _ _ l.loop.invariant.0 c.before.loop-test.false c.if4.false, (f.periods_long, f.budgets_long, f.deadlines_long))
 
-pub value-lines-spec : {M : Type 1} → statement M
-value-lines-spec =
+pub value_lines_spec : {M : Type 1} → statement M
+value_lines_spec =
     tie.close
     (tie.spec
     invariant-loop

@@ -2,8 +2,8 @@
 use native.Mathlib.Omega.{arith}
 use borrow.Author.Rules.{rules}
 use Rattle.laws.proofs.Parts.{past}
-use Rattle.text.specs.Lines.{lineEnd, space}
-use Rattle.reader.proofs.ValueLine.{Ended, ended, not-ended, no-first, no_second, no_third, all_three, fits}
+use Rattle.text.specs.Lines.{line_end, space}
+use Rattle.reader.proofs.ValueLine.{Ended, ended, not_ended_lem, no_first, no_second, no_third, all_three, fits}
 use Rattle.reader.proofs.values.value_line.Statement.{statement}
 use Rattle.reader.proofs.values.value_line.Tie as tie
 
@@ -27,11 +27,11 @@ third :
     (c : tie.Else3)
     → let b = (second-of c.before).before in
     let a = (first_of b).before in
-    Ended lineEnd (past (past a.before.before.before.args.text.now a.value-up-to.result) b.value-up-to2.result) c.before.value-up-to3.result
+    Ended line_end (past (past a.before.before.before.args.text.now a.value-up-to.result) b.value-up-to2.result) c.before.value-up-to3.result
 third c = ended _ _ _ c.before.value-up-to3.ensures.0 c.if3.false
 
 returns : tie.Need-returns
-returns c = let r = no-first _ _ (not-ended _ _ _ c.before.value-up-to.ensures.0 c.if1.true) in (r.count, r.values)
+returns c = let r = no_first _ _ (not_ended_lem _ _ _ c.before.value-up-to.ensures.0 c.if1.true) in (r.count, r.values)
 
 sub-rest : tie.Need-overflow-sub-rest
 sub-rest c = (first c).within
@@ -41,7 +41,7 @@ part-rest-start c = (first c).within
 
 returns-2 : tie.Need-returns-2
 returns-2 c =
-    let r = no_second _ _ (first (first_of c.before)) _ (not-ended _ _ _ c.before.value-up-to2.ensures.0 c.if2.true) in
+    let r = no_second _ _ (first (first_of c.before)) _ (not_ended_lem _ _ _ c.before.value-up-to2.ensures.0 c.if2.true) in
     (r.count, r.values)
 
 sub-last : tie.Need-overflow-sub-last
@@ -53,7 +53,7 @@ part-last-start c = (second c).within
 returns-3 : tie.Need-returns-3
 returns-3 c =
     let b = second-of c.before in
-    let r = no_third _ _ (first (first_of b.before)) _ (second b) _ (not-ended _ _ _ c.before.value-up-to3.ensures.0 c.if3.true) in
+    let r = no_third _ _ (first (first_of b.before)) _ (second b) _ (not_ended_lem _ _ _ c.before.value-up-to3.ensures.0 c.if3.true) in
     (r.count, r.values)
 
 add-result-5 : tie.Need-overflow-add-result-5
@@ -73,8 +73,8 @@ returns-4 c =
     in
     (r.count, r.values)
 
-pub value-line-spec : {M : Type 1} → statement M
-value-line-spec =
+pub value_line_spec : {M : Type 1} → statement M
+value_line_spec =
     tie.close
     (tie.spec
     (λ c κs. search rules)

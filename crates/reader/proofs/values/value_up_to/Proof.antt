@@ -8,11 +8,11 @@ use mathlib.Core.Logic.{⊎_elim}
 use borrow.Author.Tests.{le-leb, lt-leb}
 use lib.ListN.{length, get_or, set}
 use Rattle.text.specs.Lines.{has, before}
-use Rattle.text.specs.Number.{isDigit, decimal}
-use Rattle.text.proofs.Split.{hasnt-of}
-use Rattle.text.proofs.Scan.{Passed, passed_none, passed-more, Other, at_other, met, missed-count}
+use Rattle.text.specs.Number.{is_digit, decimal}
+use Rattle.text.proofs.Split.{hasnt_of}
+use Rattle.text.proofs.Scan.{Passed, passed_none, passed_more, Other, at_other, met, missed_count}
 use Rattle.reader.specs.Value.{is_value}
-use Rattle.reader.proofs.ValueScan.{largest, Digits, digits-none, digits_more, value-number, no-digits, no_digit, too_long, zero-leads, is-value, sum_fits}
+use Rattle.reader.proofs.ValueScan.{largest, Digits, digits_none, digits_more, value_number, no_digits, no_digit, too_long, zero_leads, is_value_lem, sum_fits}
 use Rattle.reader.proofs.values.value_up_to.Statement.{statement}
 use Rattle.reader.proofs.values.value_up_to.Tie as tie
 
@@ -30,8 +30,8 @@ module _ (end : ℕ) (text values values₀ : List ℕ) (place : ℕ) (same : va
       (0 ≡ cond (has end text && is_value (before end text)) (length (before end text)) 0)
       × (values ≡ cond (has end text && is_value (before end text)) (set values₀ place (decimal (before end text))) values₀)
 
-  not-ended : has end text ≡ false → Nothing
-  not-ended h = rw h (refl, same)
+  not_ended_lem : has end text ≡ false → Nothing
+  not_ended_lem h = rw h (refl, same)
 
   no_value : is_value (before end text) ≡ false → Nothing
   no_value v = rw (v, and-false (has end text)) (refl, same)
@@ -43,30 +43,30 @@ other :
 other c = at_other _ _ _ c.before.before.before.loop.invariant.0 c.before.before.loop-test.true c.if1.false
 
 loop-holds : tie.Need-loop-init invariant-loop decreases-loop
-loop-holds c = (passed_none _ _, digits-none _, refl)
+loop-holds c = (passed_none _ _, digits_none _, refl)
 
 returns : tie.Need-returns invariant-loop decreases-loop
 returns c =
     let l = c.before.before.before.before in
     let m = met _ _ _ l.loop.invariant.0 c.before.before.before.loop-test.true c.before.if1.true in
-    no_value _ _ _ _ _ l.loop.invariant.2 (no-digits _ (m.count ∙ c.if2.true))
+    no_value _ _ _ _ _ l.loop.invariant.2 (no_digits _ (m.count ∙ c.if2.true))
 
 returns-2 : tie.Need-returns-2 invariant-loop decreases-loop
 returns-2 c =
     let l = c.before.before.before.before in
     let m = met _ _ _ l.loop.invariant.0 c.before.before.before.loop-test.true c.before.if1.true in
-    let v = is-value _ _ _ l.loop.invariant.1 m.count (omega (arith, c.if2.false)) in
-    rw (m.is, ← value-number, v.is, v.value, m.count, l.loop.invariant.2) (refl, refl)
+    let v = is_value_lem _ _ _ l.loop.invariant.1 m.count (omega (arith, c.if2.false)) in
+    rw (m.is, ← value_number, v.is, v.value, m.count, l.loop.invariant.2) (refl, refl)
 
 returns-3 : tie.Need-returns-3 invariant-loop decreases-loop
-unfolding isDigit
+unfolding is_digit
 returns-3 c =
     let e = c.before in
     let l = e.before.before.before in
     no_value _ _ _ _ _ l.loop.invariant.2 (no_digit _ _ _ l.loop.invariant.1 (other e).inside (rw ((other e).same, lt-leb _ _ c.if3.true)))
 
 returns-4 : tie.Need-returns-4 invariant-loop decreases-loop
-unfolding isDigit
+unfolding is_digit
 returns-4 c =
     let e = c.before.before in
     let l = e.before.before.before in
@@ -82,13 +82,13 @@ returns-6 : tie.Need-returns-6 invariant-loop decreases-loop
 returns-6 c =
     let e = c.before.before.before.before.before in
     let l = e.before.before.before in
-    no_value _ _ _ _ _ l.loop.invariant.2 (zero-leads _ _ _ l.loop.invariant.1 (other e).inside c.before.if6.true (omega (arith, c.if7.true)))
+    no_value _ _ _ _ _ l.loop.invariant.2 (zero_leads _ _ _ l.loop.invariant.1 (other e).inside c.before.if6.true (omega (arith, c.if7.true)))
 
 -- where the next digit is taken
 next-digit :
     (c : tie.Else4 invariant-loop decreases-loop)
-    → let l = c.before.before.before.before.before in isDigit (get_or (before l.before.args.end l.before.args.text.now) l.loop.i 0) ≡ true
-unfolding isDigit
+    → let l = c.before.before.before.before.before in is_digit (get_or (before l.before.args.end l.before.args.text.now) l.loop.i 0) ≡ true
+unfolding is_digit
 next-digit c = rw ((other c.before.before).same, le-leb _ _ c.before.if3.false, le-leb _ _ c.if4.false)
 
 -- the number with it, which fits
@@ -115,7 +115,7 @@ loop-again c =
     let e = d.before.before.before in
     let l = e.before.before.before in
     let first : l.loop.number ≡ 0 → l.loop.i ≡ 0 = λ z. ⊎_elim (λ w. omega (arith, w)) (λ w. absurd (w.left z)) c.if6.branch in (
-      passed-more _ _ _ l.loop.invariant.0 e.before.before.loop-test.true e.if1.false,
+      passed_more _ _ _ l.loop.invariant.0 e.before.before.loop-test.true e.if1.false,
       rw (← (other e).same) (digits_more _ _ _ l.loop.invariant.1 (other e).inside (next-digit d.before) d.if5.false first),
       l.loop.invariant.2,
     )
@@ -123,10 +123,10 @@ loop-again c =
 returns-7 : tie.Need-returns-7 invariant-loop decreases-loop
 returns-7 c =
     let l = c.before in
-    not-ended _ _ _ _ _ l.loop.invariant.2 (hasnt-of _ _ (omega (arith, missed-count _ _ _ l.loop.invariant.0 c.loop-test.false, c.loop-test.false)))
+    not_ended_lem _ _ _ _ _ l.loop.invariant.2 (hasnt_of _ _ (omega (arith, missed_count _ _ _ l.loop.invariant.0 c.loop-test.false, c.loop-test.false)))
 
-pub value-up-to-spec : {M : Type 1} → statement M
-value-up-to-spec =
+pub value_up_to_spec : {M : Type 1} → statement M
+value_up_to_spec =
     tie.close
     (tie.spec
     invariant-loop

@@ -7,36 +7,36 @@ use mathlib.Core.List.{List}
 use borrow.Author.Rules.{rules}
 use borrow.Author.Tests.{not-false}
 use lib.ListN.{get_or, replicate}
-use Rattle.laws.proofs.Booleans.{was-false}
-use Rattle.text.specs.Fields.{areNumbers, FilledFromLine}
-use Rattle.text.proofs.FilledFromLine.{entry-is}
+use Rattle.laws.proofs.Booleans.{was_false}
+use Rattle.text.specs.Fields.{are_numbers, FilledFromLine}
+use Rattle.text.proofs.FilledFromLine.{entry_is}
 use Rattle.machine.specs.declared.call.Call.TheVariants.{Release}
-use Rattle.script.specs.Numbers.{maxDigits, maxNumber}
-use Rattle.script.specs.Calls.{releaseOf}
+use Rattle.script.specs.Numbers.{max_digits, max_number}
+use Rattle.script.specs.Calls.{release_of}
 use Rattle.script.specs.declared.calls.CallLine.TheVariants.{Read, Bad}
 use Rattle.script.proofs.calls.release_fields.Statement.{statement}
 use Rattle.script.proofs.calls.release_fields.Tie as tie
 
-no-release : (f : List ℕ) → areNumbers maxDigits maxNumber 2 f ≡ false → Bad ≡ releaseOf f
-unfolding releaseOf
+no-release : (f : List ℕ) → are_numbers max_digits max_number 2 f ≡ false → Bad ≡ release_of f
+unfolding release_of
 no-release f e = rw e
 
-release-read : (f a : List ℕ) → FilledFromLine maxDigits maxNumber f (replicate 2 0) a true → Read (Release (get_or a 0 0) (get_or a 1 0)) ≡ releaseOf f
-unfolding releaseOf
+release-read : (f a : List ℕ) → FilledFromLine max_digits max_number f (replicate 2 0) a true → Read (Release (get_or a 0 0) (get_or a 1 0)) ≡ release_of f
+unfolding release_of
 release-read f a n =
-    let is = entry-is maxDigits maxNumber f (replicate 2 0) a n in
+    let is = entry_is max_digits max_number f (replicate 2 0) a n in
     rw (← n.is, ← is 0 (omega arith), ← is 1 (omega arith))
 
 returns : tie.Need-returns
-returns c = no-release _ (was-false c.before.before.fill-from-line.ensures.is c.if1.true)
+returns c = no-release _ (was_false c.before.before.fill-from-line.ensures.is c.if1.true)
 
 returns-2 : tie.Need-returns-2
 returns-2 c =
     let n = c.before.before in
     release-read _ _ (rw (not-false n.fill-from-line.result c.if1.false) at n.fill-from-line.ensures)
 
-pub release-fields-spec : {M : Type 1} → statement M
-release-fields-spec =
+pub release_fields_spec : {M : Type 1} → statement M
+release_fields_spec =
     tie.close
     (tie.spec
     (λ c. search rules)

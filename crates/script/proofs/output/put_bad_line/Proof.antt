@@ -1,5 +1,5 @@
 -- `put_bad_line` meets its contract: the word, and a line of one number.
-use Rattle.script.proofs.OutputLaws.{bad-put}
+use Rattle.script.proofs.OutputLaws.{bad_put}
 use borrow.Author.Rules.{rules}
 use Rattle.script.proofs.output.put_bad_line.Statement.{statement}
 use Rattle.script.proofs.output.put_bad_line.Tie as tie
@@ -7,10 +7,10 @@ use Rattle.script.proofs.output.put_bad_line.Tie as tie
 returns : tie.Need-returns
 returns c =
     let n = c.before.before in
-    bad-put _ _ _ _ _ _ _ (search rules) n.before.before.before.before.before.put.ensures n.put-numbers.ensures
+    bad_put _ _ _ _ _ _ _ (search rules) n.before.before.before.before.before.put.ensures n.put-numbers.ensures
 
-pub put-bad-line-spec : {M : Type 1} → statement M
-put-bad-line-spec =
+pub put_bad_line_spec : {M : Type 1} → statement M
+put_bad_line_spec =
     tie.close
     (tie.spec
     (λ c. search rules)

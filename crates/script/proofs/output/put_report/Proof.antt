@@ -5,10 +5,10 @@ use mathlib.Core.Logic.{⊎_elim}
 use mathlib.Core.Path.{refl, sym}
 use borrow.Author.Rules.{rules}
 use lib.Seq.{length-take-le}
-use Rattle.text.proofs.Putting.{put-size}
-use Rattle.tasks.specs.Limits.{maxTasks}
+use Rattle.text.proofs.Putting.{put_size}
+use Rattle.tasks.specs.Limits.{max_tasks}
 use Rattle.machine.specs.declared.answer.Report.{Report}
-use Rattle.script.proofs.ReportNumbers.{Listing, list-none, list-runner, list-other, list_all}
+use Rattle.script.proofs.ReportNumbers.{Listing, list_none, list_runner, list_other, list_all}
 use Rattle.script.proofs.output.put_report.Statement.{statement}
 use Rattle.script.proofs.output.put_report.Tie as tie
 
@@ -16,24 +16,24 @@ abbrev invariant-loop : tie.invariant-loop
 invariant-loop output used ran assigned numbers₀ n₀ i₀ numbers n i = Listing numbers₀ ran assigned numbers n i
 
 abbrev decreases-loop : tie.decreases-loop
-decreases-loop output used ran assigned numbers₀ n₀ i₀ numbers n i = maxTasks - i
+decreases-loop output used ran assigned numbers₀ n₀ i₀ numbers n i = max_tasks - i
 
 loop-holds : tie.Need-loop-init invariant-loop decreases-loop
-loop-holds c = list-none _ _ _ refl
+loop-holds c = list_none _ _ _ refl
 
 loop-again : tie.Need-loop-preserved invariant-loop decreases-loop
 loop-again c =
     let l = c.before.before in
     ⊎_elim
-    (λ w. rw (w.2, w.3, w.1.ensures) (list-runner _ _ _ _ _ _ l.loop.invariant (omega arith) w.0.taken))
-    (λ w. rw (w.1, w.2) (list-other _ _ _ _ _ _ l.loop.invariant (omega arith) w.0.left))
+    (λ w. rw (w.2, w.3, w.1.ensures) (list_runner _ _ _ _ _ _ l.loop.invariant (omega arith) w.0.taken))
+    (λ w. rw (w.1, w.2) (list_other _ _ _ _ _ _ l.loop.invariant (omega arith) w.0.left))
     c.if1.branch
 
 slice-aggregate-put-numbers : tie.Need-slice-aggregate-put-numbers invariant-loop decreases-loop
 slice-aggregate-put-numbers c = sym (length-take-le _ _ (omega arith))
 
 same_length : tie.Need-same-length invariant-loop decreases-loop
-same_length c = put-size _ _ _ _ _ c.before.before.put-numbers.ensures
+same_length c = put_size _ _ _ _ _ c.before.before.put-numbers.ensures
 
 -- the report, from the place after its masks
 abbrev report-of : tie.After-mask3 invariant-loop decreases-loop → Report
@@ -48,8 +48,8 @@ returns c =
     rw (← list_all (report-of k) _ _ _ _ _ _ _ k.before.before.mask.ensures k.before.mask2.ensures k.mask3.ensures l.loop.invariant d.loop-test.false)
     p.put-numbers.ensures
 
-pub put-report-spec : {M : Type 1} → statement M
-put-report-spec =
+pub put_report_spec : {M : Type 1} → statement M
+put_report_spec =
     tie.close
     (tie.spec
     invariant-loop

@@ -7,37 +7,37 @@ use mathlib.Core.List.{List}
 use borrow.Author.Rules.{rules}
 use borrow.Author.Tests.{not-false}
 use lib.ListN.{get_or, replicate}
-use Rattle.laws.proofs.Booleans.{was-false}
-use Rattle.text.specs.Fields.{areNumbers, FilledFromLine}
-use Rattle.text.proofs.FilledFromLine.{entry-is}
-use Rattle.script.specs.Numbers.{maxDigits, maxNumber}
-use Rattle.script.specs.Calls.{fieldsTask, taskFields}
+use Rattle.laws.proofs.Booleans.{was_false}
+use Rattle.text.specs.Fields.{are_numbers, FilledFromLine}
+use Rattle.text.proofs.FilledFromLine.{entry_is}
+use Rattle.script.specs.Numbers.{max_digits, max_number}
+use Rattle.script.specs.Calls.{fields_task, task_fields}
 use Rattle.script.specs.declared.task.TaskFields.TheVariants.{Read, Bad}
 use Rattle.script.proofs.task.task_fields.Statement.{statement}
 use Rattle.script.proofs.task.task_fields.Tie as tie
 
-no-task : (f : List ℕ) → areNumbers maxDigits maxNumber 3 f ≡ false → Bad ≡ taskFields f
-unfolding taskFields
-no-task f e = rw e
+no_task_lem : (f : List ℕ) → are_numbers max_digits max_number 3 f ≡ false → Bad ≡ task_fields f
+unfolding task_fields
+no_task_lem f e = rw e
 
-task-read :
-    (f a : List ℕ) → FilledFromLine maxDigits maxNumber f (replicate 3 0) a true
-    → Read (record { period = get_or a 0 0; budget = get_or a 1 0; deadline = get_or a 2 0 }) ≡ taskFields f
-unfolding taskFields fieldsTask
-task-read f a n =
-    let is = entry-is maxDigits maxNumber f (replicate 3 0) a n in
+task_read :
+    (f a : List ℕ) → FilledFromLine max_digits max_number f (replicate 3 0) a true
+    → Read (record { period = get_or a 0 0; budget = get_or a 1 0; deadline = get_or a 2 0 }) ≡ task_fields f
+unfolding task_fields fields_task
+task_read f a n =
+    let is = entry_is max_digits max_number f (replicate 3 0) a n in
     rw (← n.is, ← is 0 (omega arith), ← is 1 (omega arith), ← is 2 (omega arith))
 
 returns : tie.Need-returns
-returns c = no-task _ (was-false c.before.before.fill-from-line.ensures.is c.if1.true)
+returns c = no_task_lem _ (was_false c.before.before.fill-from-line.ensures.is c.if1.true)
 
 returns-2 : tie.Need-returns-2
 returns-2 c =
     let n = c.before.before in
-    task-read _ _ (rw (not-false n.fill-from-line.result c.if1.false) at n.fill-from-line.ensures)
+    task_read _ _ (rw (not-false n.fill-from-line.result c.if1.false) at n.fill-from-line.ensures)
 
-pub task-fields-spec : {M : Type 1} → statement M
-task-fields-spec =
+pub task_fields_spec : {M : Type 1} → statement M
+task_fields_spec =
     tie.close
     (tie.spec
     (λ c. search rules)

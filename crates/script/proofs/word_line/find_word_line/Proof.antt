@@ -6,7 +6,7 @@ use mathlib.Core.Path.{◌≡◌, sym, ◌∙◌}
 use borrow.Author.Rules.{rules}
 use lib.ListN.{length}
 use lib.Seq.{length-take-le}
-use Rattle.script.proofs.WordLineLaws.{Looking, looking-none, looked-all, not-ended, line-fits, looked-here, looking-more}
+use Rattle.script.proofs.WordLineLaws.{Looking, looking_none, looked_all, not_ended_lem, line_fits, looked_here, looking_more}
 use Rattle.script.proofs.word_line.find_word_line.Statement.{statement}
 use Rattle.script.proofs.word_line.find_word_line.Tie as tie
 
@@ -17,12 +17,12 @@ abbrev decreases-loop : tie.decreases-loop
 decreases-loop text word at₀ line₀ at line = length text - at
 
 loop-holds : tie.Need-loop-init invariant-loop decreases-loop
-loop-holds c = looking-none _ _
+loop-holds c = looking_none _ _
 
 returns : tie.Need-returns invariant-loop decreases-loop
 returns c =
     let d = c.before.before.before.before in
-    not-ended _ _ _ _ d.loop.invariant _ c.before.find.ensures c.if1.true
+    not_ended_lem _ _ _ _ d.loop.invariant _ c.before.find.ensures c.if1.true
 
 -- the line with its byte 10 lies within the text
 abbrev at-line : tie.Else1 invariant-loop decreases-loop → tie.At-loop invariant-loop decreases-loop
@@ -30,7 +30,7 @@ at-line c = c.before.before.before.before
 
 fits :
     (c : tie.Else1 invariant-loop decreases-loop) → (at-line c).loop.at + c.before.find.result + 1 ≤ length (at-line c).before.before.before.args.text.now
-fits c = line-fits _ _ _ _ (at-line c).loop.invariant _ c.before.find.ensures c.if1.false
+fits c = line_fits _ _ _ _ (at-line c).loop.invariant _ c.before.find.ensures c.if1.false
 
 add-next : tie.Need-overflow-add-next invariant-loop decreases-loop
 add-next c = omega (arith, fits c)
@@ -44,7 +44,7 @@ slice-aggregate-same c = sym (length-take-le _ _ (le_of_lt c.before.if1.false))
 returns-2 : tie.Need-returns-2 invariant-loop decreases-loop
 returns-2 c =
     let e = c.before.before.before in
-    looked-here _ _ _ _ (at-line e).loop.invariant _ e.before.find.ensures e.if1.false (sym c.before.same.ensures ∙ c.if2.true)
+    looked_here _ _ _ _ (at-line e).loop.invariant _ e.before.find.ensures e.if1.false (sym c.before.same.ensures ∙ c.if2.true)
 
 loop-less : tie.Need-loop-smaller invariant-loop decreases-loop
 loop-less c = omega (arith, fits c.before.before.before)
@@ -52,13 +52,13 @@ loop-less c = omega (arith, fits c.before.before.before)
 loop-again : tie.Need-loop-preserved invariant-loop decreases-loop
 loop-again c =
     let e = c.before.before.before in
-    looking-more _ _ _ _ (at-line e).loop.invariant _ e.before.find.ensures e.if1.false (sym c.before.same.ensures ∙ c.if2.false)
+    looking_more _ _ _ _ (at-line e).loop.invariant _ e.before.find.ensures e.if1.false (sym c.before.same.ensures ∙ c.if2.false)
 
 returns-3 : tie.Need-returns-3 invariant-loop decreases-loop
-returns-3 c = looked-all _ _ _ _ c.before.loop.invariant c.loop-test.false
+returns-3 c = looked_all _ _ _ _ c.before.loop.invariant c.loop-test.false
 
-pub find-word-line-spec : {M : Type 1} → statement M
-find-word-line-spec =
+pub find_word_line_spec : {M : Type 1} → statement M
+find_word_line_spec =
     tie.close
     (tie.spec
     invariant-loop

@@ -16,5 +16,5 @@ returns-2 c =
     let p = c.before in
     c.check-rest.ensures ∙ rw (le-ltb _ _ p.before.before.if1.false, p.first-out-of-range.ensures)
 
-pub check-spec : {M : Type 1} → statement M
-check-spec = tie.close (tie.spec (λ c κs. search rules) returns (λ c κs. search rules) (λ c κs. search rules) returns-2)
+pub check_spec : {M : Type 1} → statement M
+check_spec = tie.close (tie.spec (λ c κs. search rules) returns (λ c κs. search rules) (λ c κs. search rules) returns-2)

@@ -1,16 +1,16 @@
 -- `cores_in_range` meets its contract.
 use borrow.Author.Tests.{lt-leb, le-leb}
-use Rattle.tasks.specs.Check.{coresInRange}
+use Rattle.tasks.specs.Check.{cores_in_range}
 use Rattle.tasks.proofs.check.cores_in_range.Statement.{statement}
 use Rattle.tasks.proofs.check.cores_in_range.Tie as tie
 
 returns : tie.Need-returns
-unfolding coresInRange
+unfolding cores_in_range
 returns c = rw (lt-leb 1 _ c.if1.true)
 
 returns-2 : tie.Need-returns-2
-unfolding coresInRange
+unfolding cores_in_range
 returns-2 c = rw (le-leb 1 _ c.if1.false)
 
-pub cores-in-range-spec : {M : Type 1} → statement M
-cores-in-range-spec = tie.close (tie.spec returns returns-2)
+pub cores_in_range_spec : {M : Type 1} → statement M
+cores_in_range_spec = tie.close (tie.spec returns returns-2)

@@ -5,20 +5,20 @@ use native.Mathlib.Omega.{arith}
 use mathlib.Core.Path.{◌≡◌, sym, ◌∙◌}
 use lib.ListN.{get_or}
 use borrow.Author.Rules.{rules}
-use Rattle.laws.proofs.Booleans.{was-true, was-false}
+use Rattle.laws.proofs.Booleans.{was_true, was_false}
 use Rattle.tasks.specs.Task.{in_range}
-use Rattle.tasks.specs.Table.{zeroTask}
-use Rattle.tasks.specs.Numbers.{tasksFrom}
-use Rattle.tasks.specs.Check.{firstOutOfRange}
-use Rattle.tasks.proofs.Numbers.{entry-from}
+use Rattle.tasks.specs.Table.{zero_task}
+use Rattle.tasks.specs.Numbers.{tasks_from}
+use Rattle.tasks.specs.Check.{first_out_of_range}
+use Rattle.tasks.proofs.Numbers.{entry_from_lem}
 use Rattle.tasks.proofs.check.first_number_out_of_range.Statement.{statement}
 use Rattle.tasks.proofs.check.first_number_out_of_range.Tie as tie
 
 abbrev invariant-loop : tie.invariant-loop
 invariant-loop periods budgets deadlines count i₀ i =
     (i ≤ count)
-    × (firstOutOfRange (tasksFrom periods budgets deadlines) 0 count
-    ≡ firstOutOfRange (tasksFrom periods budgets deadlines) i (count - i))
+    × (first_out_of_range (tasks_from periods budgets deadlines) 0 count
+    ≡ first_out_of_range (tasks_from periods budgets deadlines) i (count - i))
 
 abbrev decreases-loop : tie.decreases-loop
 decreases-loop periods budgets deadlines count i₀ i = count - i
@@ -36,32 +36,32 @@ more c = omega arith
 tested : (c : tie.After-in-range invariant-loop decreases-loop) →
     let l = c.before.before.before.before.before in
     let a = l.before.args in
-    c.in-range.result ≡ in_range (get_or (tasksFrom a.periods.now a.budgets.now a.deadlines.now) l.loop.i zeroTask)
+    c.in_range_lem.result ≡ in_range (get_or (tasks_from a.periods.now a.budgets.now a.deadlines.now) l.loop.i zero_task)
 tested c =
     let l = c.before.before.before.before.before in
     let a = l.before.args in
-    c.in-range.ensures ∙ rw (entry-from a.periods.now a.budgets.now a.deadlines.now l.loop.i (omega arith))
+    c.in_range_lem.ensures ∙ rw (entry_from_lem a.periods.now a.budgets.now a.deadlines.now l.loop.i (omega arith))
 
 returns : tie.Need-returns invariant-loop decreases-loop
-unfolding firstOutOfRange
+unfolding first_out_of_range
 returns c =
     let d = c.before in
-    sym (d.before.before.before.before.before.loop.invariant.1 ∙ rw (more d, was-false (tested d) c.if1.true))
+    sym (d.before.before.before.before.before.loop.invariant.1 ∙ rw (more d, was_false (tested d) c.if1.true))
 
 loop-again : tie.Need-loop-preserved invariant-loop decreases-loop
-unfolding firstOutOfRange
+unfolding first_out_of_range
 loop-again c =
     let d = c.before in
-    (omega arith, d.before.before.before.before.before.loop.invariant.1 ∙ rw (more d, was-true (tested d) c.if1.false))
+    (omega arith, d.before.before.before.before.before.loop.invariant.1 ∙ rw (more d, was_true (tested d) c.if1.false))
 
 returns-2 : tie.Need-returns-2 invariant-loop decreases-loop
-unfolding firstOutOfRange
+unfolding first_out_of_range
 returns-2 c =
     let z : c.before.before.args.count - c.before.loop.i ≡ 0 = omega arith in
     sym (c.before.loop.invariant.1 ∙ rw z)
 
-pub first-number-out-of-range-spec : {M : Type 1} → statement M
-first-number-out-of-range-spec =
+pub first_number_out_of_range_spec : {M : Type 1} → statement M
+first_number_out_of_range_spec =
     tie.close
     (tie.spec
     invariant-loop

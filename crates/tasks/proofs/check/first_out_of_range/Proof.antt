@@ -4,14 +4,14 @@ use native.Mathlib.Nat.{sub-zero}
 use native.Mathlib.Omega.{arith}
 use mathlib.Core.Path.{◌≡◌, sym, ◌∙◌}
 use borrow.Author.Rules.{rules}
-use Rattle.laws.proofs.Booleans.{was-true, was-false}
-use Rattle.tasks.specs.Table.{zeroTask}
-use Rattle.tasks.specs.Check.{firstOutOfRange}
+use Rattle.laws.proofs.Booleans.{was_true, was_false}
+use Rattle.tasks.specs.Table.{zero_task}
+use Rattle.tasks.specs.Check.{first_out_of_range}
 use Rattle.tasks.proofs.check.first_out_of_range.Statement.{statement}
 use Rattle.tasks.proofs.check.first_out_of_range.Tie as tie
 
 abbrev invariant-loop : tie.invariant-loop
-invariant-loop count tasks i₀ i = (i ≤ count) × (firstOutOfRange tasks 0 count ≡ firstOutOfRange tasks i (count - i))
+invariant-loop count tasks i₀ i = (i ≤ count) × (first_out_of_range tasks 0 count ≡ first_out_of_range tasks i (count - i))
 
 abbrev decreases-loop : tie.decreases-loop
 decreases-loop count tasks i₀ i = count - i
@@ -26,25 +26,25 @@ more : (c : tie.After-in-range invariant-loop decreases-loop) →
 more c = omega arith
 
 returns : tie.Need-returns invariant-loop decreases-loop
-unfolding firstOutOfRange zeroTask
+unfolding first_out_of_range zero_task
 returns c =
     let d = c.before in
-    sym (d.before.before.before.loop.invariant.1 ∙ rw (more d, was-false d.in-range.ensures c.if1.true))
+    sym (d.before.before.before.loop.invariant.1 ∙ rw (more d, was_false d.in_range_lem.ensures c.if1.true))
 
 loop-again : tie.Need-loop-preserved invariant-loop decreases-loop
-unfolding firstOutOfRange zeroTask
+unfolding first_out_of_range zero_task
 loop-again c =
     let d = c.before in
-    (omega arith, d.before.before.before.loop.invariant.1 ∙ rw (more d, was-true d.in-range.ensures c.if1.false))
+    (omega arith, d.before.before.before.loop.invariant.1 ∙ rw (more d, was_true d.in_range_lem.ensures c.if1.false))
 
 returns-2 : tie.Need-returns-2 invariant-loop decreases-loop
-unfolding firstOutOfRange
+unfolding first_out_of_range
 returns-2 c =
     let z : c.before.before.args.count - c.before.loop.i ≡ 0 = omega arith in
     sym (c.before.loop.invariant.1 ∙ rw z)
 
-pub first-out-of-range-spec : {M : Type 1} → statement M
-first-out-of-range-spec =
+pub first_out_of_range_spec : {M : Type 1} → statement M
+first_out_of_range_spec =
     tie.close
     (tie.spec
     invariant-loop

@@ -1,7 +1,7 @@
 -- `flags_of` meets its contract. The invariant: the flags so far are the sum's first, and the rest has the others.
 use Prim.Native.Nat.{◌-◌}
 use native.Mathlib.Omega.{arith}
-use Rattle.tasks.proofs.FlagsLaws.{Named, named_none, named_more, named-all}
+use Rattle.tasks.proofs.FlagsLaws.{Named, named_none, named_more, named_all}
 use Rattle.tasks.proofs.flags.flags_of.Statement.{statement}
 use Rattle.tasks.proofs.flags.flags_of.Tie as tie
 
@@ -15,10 +15,10 @@ loop-again : tie.Need-loop-preserved invariant-loop decreases-loop
 loop-again c = named_more _ _ _ _ c.before.loop.invariant c.loop-test.true
 
 returns : tie.Need-returns invariant-loop decreases-loop
-returns c = named-all _ _ _ _ c.before.loop.invariant (omega (arith, c.before.loop.invariant.within))
+returns c = named_all _ _ _ _ c.before.loop.invariant (omega (arith, c.before.loop.invariant.within))
 
-pub flags-of-spec : {M : Type 1} → statement M
-flags-of-spec =
+pub flags_of_spec : {M : Type 1} → statement M
+flags_of_spec =
     tie.close
     (tie.spec
     invariant-loop

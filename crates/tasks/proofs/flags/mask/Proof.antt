@@ -6,7 +6,7 @@ use mathlib.Core.Bool.{false}
 use mir.Val.{bool_byte}
 use borrow.Author.Rules.{rules}
 use lib.ListN.{length, get_or}
-use Rattle.tasks.proofs.MaskLaws.{Masked, masked-none, masked_small, masked-more}
+use Rattle.tasks.proofs.MaskLaws.{Masked, masked_none, masked_small, masked_more}
 use Rattle.tasks.proofs.flags.mask.Statement.{statement}
 use Rattle.tasks.proofs.flags.mask.Tie as tie
 
@@ -20,12 +20,12 @@ decreases-loop named sum₀ i₀ sum i = i
 fits : (c : tie.In-loop invariant-loop decreases-loop) →
     let l = c.before in
     bool_byte (get_or l.before.args.t1 (l.loop.i - 1) false) + 2 * l.loop.sum < 2 ^ 64
-fits c = omega (arith, masked_small _ _ _ (masked-more _ _ _ c.before.loop.invariant c.loop-test.true))
+fits c = omega (arith, masked_small _ _ _ (masked_more _ _ _ c.before.loop.invariant c.loop-test.true))
 
 loop-holds : tie.Need-loop-init invariant-loop decreases-loop
 loop-holds c =
     let e : length c.args.t1 ≡ 32 = search rules in
-    masked-none _ e
+    masked_none _ e
 
 array-read-sum : tie.Need-array-read-sum invariant-loop decreases-loop
 array-read-sum c = omega (arith, c.before.loop.invariant.within)
@@ -37,15 +37,15 @@ add-sum : tie.Need-overflow-add-sum invariant-loop decreases-loop
 add-sum c = omega (arith, fits c)
 
 loop-again : tie.Need-loop-preserved invariant-loop decreases-loop
-loop-again c = masked-more _ _ _ c.before.loop.invariant c.loop-test.true
+loop-again c = masked_more _ _ _ c.before.loop.invariant c.loop-test.true
 
 returns : tie.Need-returns invariant-loop decreases-loop
 returns c =
     let e : c.before.loop.i ≡ 0 = omega arith in
     rw e at c.before.loop.invariant.sum_is
 
-pub mask-spec : {M : Type 1} → statement M
-mask-spec =
+pub mask_spec : {M : Type 1} → statement M
+mask_spec =
     tie.close
     (tie.spec
     invariant-loop

@@ -4,8 +4,8 @@ use mathlib.Core.Path.{sym}
 use native.Mathlib.Omega.{arith}
 use borrow.Author.Rules.{rules}
 use lib.ListN.{length}
-use Rattle.text.proofs.Split.{before-fits}
-use Rattle.text.proofs.Scan.{Passed, passed_none, passed-next, passed-rest, met}
+use Rattle.text.proofs.Split.{before_fits}
+use Rattle.text.proofs.Scan.{Passed, passed_none, passed_next, passed_rest, met}
 use Rattle.text.proofs.bytes.find.Statement.{statement}
 use Rattle.text.proofs.bytes.find.Tie as tie
 
@@ -20,17 +20,17 @@ abbrev turn : tie.Else1 invariant-loop decreases-loop → tie.At-loop invariant-
 turn c = c.before.before.before
 
 one : (c : tie.Else1 invariant-loop decreases-loop) → Passed (turn c).before.before.args.byte (turn c).before.before.args.text.now ((turn c).loop.i + 1)
-one c = passed-next _ _ _ (turn c).loop.invariant (omega arith) c.if1.false _ (omega arith)
+one c = passed_next _ _ _ (turn c).loop.invariant (omega arith) c.if1.false _ (omega arith)
 
 two :
     (c : tie.Else2 invariant-loop decreases-loop)
     → let t = turn c.before.before in Passed t.before.before.args.byte t.before.before.args.text.now (t.loop.i + 2)
-two c = passed-next _ _ _ (one c.before.before) (omega arith) c.if2.false _ (omega arith)
+two c = passed_next _ _ _ (one c.before.before) (omega arith) c.if2.false _ (omega arith)
 
 three :
     (c : tie.Else3 invariant-loop decreases-loop)
     → let t = turn c.before.before.before.before in Passed t.before.before.args.byte t.before.before.args.text.now (t.loop.i + 3)
-three c = passed-next _ _ _ (two c.before.before) (omega arith) c.if3.false _ (omega arith)
+three c = passed_next _ _ _ (two c.before.before) (omega arith) c.if3.false _ (omega arith)
 
 returns : tie.Need-returns invariant-loop decreases-loop
 returns c = sym (met _ _ _ c.before.before.before.loop.invariant (omega arith) c.if1.true).count
@@ -45,13 +45,13 @@ returns-4 : tie.Need-returns-4 invariant-loop decreases-loop
 returns-4 c = sym (met _ _ _ (three c.before.before) (omega arith) c.if4.true).count
 
 loop-again : tie.Need-loop-preserved invariant-loop decreases-loop
-loop-again c = passed-next _ _ _ (three c.before.before) (omega arith) c.if4.false _ (omega arith)
+loop-again c = passed_next _ _ _ (three c.before.before) (omega arith) c.if4.false _ (omega arith)
 
 returns-5 : tie.Need-returns-5 invariant-loop decreases-loop
-returns-5 c = passed-rest _ _ _ c.before.before.before.loop.invariant _ c.find-one-by-one.ensures
+returns-5 c = passed_rest _ _ _ c.before.before.before.loop.invariant _ c.find-one-by-one.ensures
 
 add-result-4 : tie.Need-overflow-add-result-4 invariant-loop decreases-loop
-add-result-4 c = let a = c.before.before.before.before.before.args in omega (arith, returns-5 c, before-fits a.byte a.text.now)
+add-result-4 c = let a = c.before.before.before.before.before.args in omega (arith, returns-5 c, before_fits a.byte a.text.now)
 
 pub find_spec : {M : Type 1} → statement M
 find_spec =

@@ -3,7 +3,7 @@ use Prim.Native.Nat.{◌-◌}
 use mathlib.Core.Path.{sym}
 use native.Mathlib.Omega.{arith}
 use lib.ListN.{length}
-use Rattle.text.proofs.Scan.{Passed, passed_none, passed-more, met, missed-count}
+use Rattle.text.proofs.Scan.{Passed, passed_none, passed_more, met, missed_count}
 use Rattle.text.proofs.bytes.find_one_by_one.Statement.{statement}
 use Rattle.text.proofs.bytes.find_one_by_one.Tie as tie
 
@@ -20,13 +20,13 @@ returns : tie.Need-returns invariant-loop decreases-loop
 returns c = sym (met _ _ _ c.before.before.before.loop.invariant c.before.before.loop-test.true c.if1.true).count
 
 loop-again : tie.Need-loop-preserved invariant-loop decreases-loop
-loop-again c = passed-more _ _ _ c.before.before.before.loop.invariant c.before.before.loop-test.true c.if1.false
+loop-again c = passed_more _ _ _ c.before.before.before.loop.invariant c.before.before.loop-test.true c.if1.false
 
 returns-2 : tie.Need-returns-2 invariant-loop decreases-loop
-returns-2 c = sym (missed-count _ _ _ c.before.loop.invariant c.loop-test.false)
+returns-2 c = sym (missed_count _ _ _ c.before.loop.invariant c.loop-test.false)
 
-pub find-one-by-one-spec : {M : Type 1} → statement M
-find-one-by-one-spec =
+pub find_one_by_one_spec : {M : Type 1} → statement M
+find_one_by_one_spec =
     tie.close
     (tie.spec
     invariant-loop

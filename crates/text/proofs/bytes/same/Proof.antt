@@ -5,14 +5,14 @@ use native.Mathlib.Omega.{arith}
 use mathlib.Core.Path.{◌≡◌, refl, sym, ◌∙◌}
 use mathlib.Core.Bool.{◌&&◌, and-true}
 use lib.ListN.{length, drop}
-use Rattle.text.specs.Words.{sameBytes}
-use Rattle.text.proofs.WordLaws.{other_length, same_next, all-agree}
+use Rattle.text.specs.Words.{same_bytes}
+use Rattle.text.proofs.WordLaws.{other_length, same_next, all_agree}
 use Rattle.text.proofs.bytes.same.Statement.{statement}
 use Rattle.text.proofs.bytes.same.Tie as tie
 
 abbrev invariant-loop : tie.invariant-loop
 invariant-loop a b equal₀ i₀ equal i =
-    (i ≤ length a) × (length a ≡ length b) × (sameBytes a b ≡ (equal && sameBytes (drop i a) (drop i b)))
+    (i ≤ length a) × (length a ≡ length b) × (same_bytes a b ≡ (equal && same_bytes (drop i a) (drop i b)))
 
 abbrev decreases-loop : tie.decreases-loop
 decreases-loop a b equal₀ i₀ equal i = length a - i
@@ -32,7 +32,7 @@ loop-again c =
 returns-2 : tie.Need-returns-2 invariant-loop decreases-loop
 returns-2 c =
     let h = c.before.loop.invariant in
-    sym (h.2 ∙ rw (all-agree _ _ _ h.1 c.loop-test.false) (and-true _))
+    sym (h.2 ∙ rw (all_agree _ _ _ h.1 c.loop-test.false) (and-true _))
 
 pub same_spec : {M : Type 1} → statement M
 same_spec =

@@ -5,9 +5,9 @@ use mathlib.Core.Path.{◌≡◌, sym, ◌∙◌}
 use borrow.Author.Rules.{rules}
 use lib.ListN.{length, length-set}
 use Rattle.text.specs.Lines.{space}
-use Rattle.text.specs.Number.{numberUpTo}
+use Rattle.text.specs.Number.{number_up_to}
 use Rattle.text.specs.declared.number.Before.TheVariants.{Read}
-use Rattle.text.proofs.FilledFromLine.{SoFar, so-far-none, so_far_more, no_number, last-field, fields-left}
+use Rattle.text.proofs.FilledFromLine.{SoFar, so_far_none, so_far_more, no_number, last_field, fields_left}
 use Rattle.text.proofs.fields.fill_from_line.Statement.{statement}
 use Rattle.text.proofs.fields.fill_from_line.Tie as tie
 
@@ -18,7 +18,7 @@ abbrev decreases-loop : tie.decreases-loop
 decreases-loop line numbers₀ digits largest rest₀ i₀ numbers rest i = length numbers - i
 
 loop-holds : tie.Need-loop-init invariant-loop decreases-loop
-loop-holds c = so-far-none _ _ _ _
+loop-holds c = so_far_none _ _ _ _
 
 same_length : tie.Need-same-length invariant-loop decreases-loop
 same_length c = c.before.before.before.before.loop.invariant.size
@@ -43,7 +43,7 @@ read_is :
     → let n = c.before.before in
     let l = n.before.before in
     let a = l.before.before.before.args in
-    numberUpTo a.digits a.largest space l.loop.rest.now ≡ Read c.number.given.0.0 c.number.given.0.1.0
+    number_up_to a.digits a.largest space l.loop.rest.now ≡ Read c.number.given.0.0 c.number.given.0.1.0
 read_is c = sym c.before.before.number-up-to.ensures ∙ c.number.given.1
 
 same-length-2 : tie.Need-same-length-2 invariant-loop decreases-loop
@@ -53,7 +53,7 @@ returns-2 : tie.Need-returns-2 invariant-loop decreases-loop
 returns-2 c =
     let n = c.before.before in
     let t = n.before.before.before in
-    last-field _ _ _ _ _ _ _ t.before.loop.invariant t.loop-test.true _ _ (read_is n) c.if1.true
+    last_field _ _ _ _ _ _ _ t.before.loop.invariant t.loop-test.true _ _ (read_is n) c.if1.true
 
 add-rest : tie.Need-overflow-add-rest invariant-loop decreases-loop
 add-rest c =
@@ -76,10 +76,10 @@ same-length-3 : tie.Need-same-length-3 invariant-loop decreases-loop
 same-length-3 c = c.before.loop.invariant.size
 
 returns-3 : tie.Need-returns-3 invariant-loop decreases-loop
-returns-3 c = fields-left _ _ _ _ _ _ _ c.before.loop.invariant c.loop-test.false
+returns-3 c = fields_left _ _ _ _ _ _ _ c.before.loop.invariant c.loop-test.false
 
-pub fill-from-line-spec : {M : Type 1} → statement M
-fill-from-line-spec =
+pub fill_from_line_spec : {M : Type 1} → statement M
+fill_from_line_spec =
     tie.close
     (tie.spec
     invariant-loop

@@ -9,13 +9,13 @@ use mathlib.Core.Logic.{⊎_elim, inl, inr}
 use borrow.Author.Rules.{rules}
 use lib.ListN.{length, get_or, take}
 use lib.Seq.{get_or-take}
-use Rattle.laws.proofs.Booleans.{was-true, was-false}
+use Rattle.laws.proofs.Booleans.{was_true, was_false}
 use Rattle.text.specs.Lines.{before}
-use Rattle.text.specs.Number.{isDigit, leadingZero, numberUpTo}
+use Rattle.text.specs.Number.{is_digit, leading_zero, number_up_to}
 use Rattle.text.specs.declared.number.Before.TheVariants.{Read}
-use Rattle.text.proofs.Scan.{Passed, passed_none, passed-more, Other, at_other, stopped}
+use Rattle.text.proofs.Scan.{Passed, passed_none, passed_more, Other, at_other, stopped}
 use Rattle.text.proofs.NumberLaws.{digit}
-use Rattle.text.proofs.NumberScan.{Scanned, scanned-none, empty, long, leading, one-digit, other-digit, no_digit, too_large, scanned-more, complete}
+use Rattle.text.proofs.NumberScan.{Scanned, scanned_none, empty, long, leading, one_digit, other_digit, no_digit, too_large, scanned_more, complete}
 use Rattle.text.proofs.number.number_up_to.Statement.{statement}
 use Rattle.text.proofs.number.number_up_to.Tie as tie
 
@@ -37,8 +37,8 @@ other c = at_other _ _ _ c.before.before.before.loop.invariant.0 c.before.before
 next-digit :
     (c : tie.Else2 invariant-loop decreases-loop)
     → let l = c.before.before.before.before.before in
-    isDigit (get_or l.before.before.args.text.now l.loop.i 0) ≡ true
-next-digit c = was-true c.before.is_digit.ensures c.if2.false
+    is_digit (get_or l.before.before.args.text.now l.loop.i 0) ≡ true
+next-digit c = was_true c.before.is_digit.ensures c.if2.false
 
 small :
     (c : tie.Else2 invariant-loop decreases-loop)
@@ -57,14 +57,14 @@ front c =
     (⊎_elim (λ w. inl w.left) (λ w. inr (w.0.taken, w.2.taken)) c.loop-test.branch)
 
 loop-holds : tie.Need-loop-init invariant-loop decreases-loop
-loop-holds c = (passed_none _ _, scanned-none _ _)
+loop-holds c = (passed_none _ _, scanned_none _ _)
 
 returns : tie.Need-returns invariant-loop decreases-loop
-unfolding numberUpTo
+unfolding number_up_to
 returns c =
     let e = c.before.before in
     let l = e.before.before.before in
-    rw (no_digit _ _ _ _ _ l.loop.invariant.1 (other e).inside (rw (other e).same (was-false c.before.is_digit.ensures c.if2.true)))
+    rw (no_digit _ _ _ _ _ l.loop.invariant.1 (other e).inside (rw (other e).same (was_false c.before.is_digit.ensures c.if2.true)))
 
 mul-more : tie.Need-overflow-mul-more invariant-loop decreases-loop
 mul-more c = omega (arith, small c)
@@ -79,7 +79,7 @@ add-more : tie.Need-overflow-add-more invariant-loop decreases-loop
 add-more c = omega (arith, small c, digit _ (next-digit c))
 
 returns-2 : tie.Need-returns-2 invariant-loop decreases-loop
-unfolding numberUpTo
+unfolding number_up_to
 returns-2 c =
     let e = c.before.before.before in
     let l = e.before.before.before in
@@ -90,14 +90,14 @@ loop-again c =
     let d = c.before in
     let e = d.before.before in
     let l = e.before.before.before in
-    (passed-more _ _ _ l.loop.invariant.0 e.before.before.loop-test.true e.if1.false, rw (← (other e).same) (scanned-more _ _ _ _ l.loop.invariant.1 (other e).inside (rw (other e).same (next-digit d)) (rw (other e).same c.if3.false)))
+    (passed_more _ _ _ l.loop.invariant.0 e.before.before.loop-test.true e.if1.false, rw (← (other e).same) (scanned_more _ _ _ _ l.loop.invariant.1 (other e).inside (rw (other e).same (next-digit d)) (rw (other e).same c.if3.false)))
 
 returns-3 : tie.Need-returns-3 invariant-loop decreases-loop
-unfolding numberUpTo
+unfolding number_up_to
 returns-3 c = rw (empty _ _ _ ((front c.before).1 ∙ c.if4.true))
 
 returns-4 : tie.Need-returns-4 invariant-loop decreases-loop
-unfolding numberUpTo
+unfolding number_up_to
 returns-4 c =
     let l = c.before.before in
     let a = l.before.before.before.args in
@@ -117,8 +117,8 @@ whole :
     (c : tie.Else5 invariant-loop decreases-loop)
     → let l = c.before.before.before in
     let a = l.before.before.args in
-    leadingZero (field c.before.before) ≡ false → Read l.loop.number l.loop.i ≡ numberUpTo a.digits a.largest a.end a.text.now
-unfolding numberUpTo
+    leading_zero (field c.before.before) ≡ false → Read l.loop.number l.loop.i ≡ number_up_to a.digits a.largest a.end a.text.now
+unfolding number_up_to
 whole c z =
     let l = c.before.before in
     let a = l.before.before.before.args in
@@ -130,7 +130,7 @@ whole c z =
     rw (n.is, n.value, e)
 
 returns-5 : tie.Need-returns-5 invariant-loop decreases-loop
-unfolding numberUpTo
+unfolding number_up_to
 returns-5 c =
     let e = c.before.before.before in
     let l = e.before.before in
@@ -141,13 +141,13 @@ returns-6 : tie.Need-returns-6 invariant-loop decreases-loop
 returns-6 c =
     let e = c.before.before.before in
     let l = e.before.before in
-    whole e (one-digit (field l) (omega (arith, (front l).1, c.if7.false)))
+    whole e (one_digit (field l) (omega (arith, (front l).1, c.if7.false)))
 
 returns-7 : tie.Need-returns-7 invariant-loop decreases-loop
-returns-7 c = let e = c.before.before in whole e (other-digit _ (rw (first_byte e) c.if6.false))
+returns-7 c = let e = c.before.before in whole e (other_digit _ (rw (first_byte e) c.if6.false))
 
-pub number-up-to-spec : {M : Type 1} → statement M
-number-up-to-spec =
+pub number_up_to_spec : {M : Type 1} → statement M
+number_up_to_spec =
     tie.close
     (tie.spec
     invariant-loop

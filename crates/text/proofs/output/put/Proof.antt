@@ -7,7 +7,7 @@ use mathlib.Core.List.{◌++◌}
 use lib.ListN.{length, take, drop, take-append-drop, length-drop}
 use lib.Seq.{take-suc, take_all}
 use Rattle.text.specs.Output.{Put}
-use Rattle.text.proofs.Putting.{put-none, put-size, put_byte, put-over, put_full}
+use Rattle.text.proofs.Putting.{put_none, put_size, put_byte, put_over, put_full}
 use Rattle.text.proofs.output.put.Statement.{statement}
 use Rattle.text.proofs.output.put.Tie as tie
 
@@ -18,7 +18,7 @@ abbrev decreases-loop : tie.decreases-loop
 decreases-loop output₀ used text at₀ i₀ output at i = length text - i
 
 loop-holds : tie.Need-loop-init invariant-loop decreases-loop
-loop-holds c = (omega arith, put-none _ _)
+loop-holds c = (omega arith, put_none _ _)
 
 -- the text in two parts, and the array as long as before
 whole : (c : tie.In-loop invariant-loop decreases-loop) →
@@ -27,7 +27,7 @@ whole : (c : tie.In-loop invariant-loop decreases-loop) →
 whole c = take-append-drop c.before.loop.i c.before.before.args.text.now
 
 kept : (c : tie.At-loop invariant-loop decreases-loop) → length c.loop.output ≡ length c.before.args.output.now
-kept c = put-size _ _ _ _ _ c.loop.invariant.1
+kept c = put_size _ _ _ _ _ c.loop.invariant.1
 
 same_length : tie.Need-same-length invariant-loop decreases-loop
 same_length c = kept c.before.before
@@ -48,7 +48,7 @@ returns-2 c =
     let l = c.before.before in
     let text = l.before.before.args.text.now in
     rw (whole l) at
-    (put-over _ _ _ _ _ l.before.loop.invariant.1 (drop l.before.loop.i text) (omega (arith, length-drop l.before.loop.i text)) c.if2.true)
+    (put_over _ _ _ _ _ l.before.loop.invariant.1 (drop l.before.loop.i text) (omega (arith, length-drop l.before.loop.i text)) c.if2.true)
 
 add_at : tie.Need-overflow-add-at invariant-loop decreases-loop
 add_at c = let l = c.before.before.before.before in omega (arith, kept l, l.before.well-formed)

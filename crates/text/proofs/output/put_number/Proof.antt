@@ -2,13 +2,13 @@
 use mathlib.Core.Path.{◌≡◌, ◌∙◌}
 use borrow.Author.Rules.{rules}
 use lib.ListN.{take}
-use Rattle.text.specs.Number.{decimalText}
+use Rattle.text.specs.Number.{decimal_text}
 use Rattle.text.proofs.DigitLaws.{same_text}
 use Rattle.text.proofs.output.put_number.Statement.{statement}
 use Rattle.text.proofs.output.put_number.Tie as tie
 
 -- the digits are the number's text
-text : (c : tie.After-decimal) → take c.decimal.result c.decimal.new.1.0 ≡ decimalText c.before.before.before.args.number
+text : (c : tie.After-decimal) → take c.decimal.result c.decimal.new.1.0 ≡ decimal_text c.before.before.before.args.number
 text c = c.decimal.ensures.1.1 ∙ same_text _ _ (search rules) c.decimal.ensures.1.0
 
 returns : tie.Need-returns
@@ -16,8 +16,8 @@ returns c =
     let p = c.before.before in
     rw (text p.before.before.before) at p.put.ensures
 
-pub put-number-spec : {M : Type 1} → statement M
-put-number-spec =
+pub put_number_spec : {M : Type 1} → statement M
+put_number_spec =
     tie.close
     (tie.spec
     (λ c κs. search rules)

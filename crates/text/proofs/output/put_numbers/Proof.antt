@@ -5,21 +5,21 @@ use mathlib.Core.Path.{◌≡◌, ◌∙◌}
 use borrow.Author.Rules.{rules}
 use lib.ListN.{length, drop}
 use Rattle.laws.proofs.Parts.{empty}
-use Rattle.text.specs.Output.{numbersLine, furtherNumbers}
-use Rattle.text.proofs.Putting.{put_then, put-size, Partly, partly_none, partly_more, partly-last}
-use Rattle.text.proofs.NumbersLine.{first-number, next-number, no_number}
+use Rattle.text.specs.Output.{numbers_line, further_numbers}
+use Rattle.text.proofs.Putting.{put_then, put_size, Partly, partly_none, partly_more, partly_last}
+use Rattle.text.proofs.NumbersLine.{first_number, next_number, no_number}
 use Rattle.text.proofs.output.put_numbers.Statement.{statement}
 use Rattle.text.proofs.output.put_numbers.Tie as tie
 
 abbrev invariant-loop : tie.invariant-loop
 invariant-loop output₀ used numbers at₀ i₀ t7 t8 output at i =
-    Partly output₀ at₀ (furtherNumbers (drop 1 numbers)) output at (furtherNumbers (drop i numbers)) × (length t7 ≡ 1) × (length t8 ≡ 1)
+    Partly output₀ at₀ (further_numbers (drop 1 numbers)) output at (further_numbers (drop i numbers)) × (length t7 ≡ 1) × (length t8 ≡ 1)
 
 abbrev decreases-loop : tie.decreases-loop
 decreases-loop output₀ used numbers at₀ i₀ t7 t8 output at i = length numbers - i
 
 returns : tie.Need-returns invariant-loop decreases-loop
-unfolding numbersLine
+unfolding numbers_line
 returns c =
     let t = c.before.before.before.before.before in
     rw (empty t.before.before.before.args.numbers.now (omega (arith, t.if1.true))) c.before.before.put.ensures
@@ -34,7 +34,7 @@ loop-again c =
     let l = p.before.before.before in
     let a = l.before.before.before.before.before.before.before.before.before.before.args in (
       partly_more _ _ _ _ _ _ _
-          (partly_more _ _ _ _ _ _ _ (rw (next-number a.numbers.now l.before.loop.i l.loop-test.true) at l.before.loop.invariant.0) _ _ p.put2.ensures) _ _ n.put-number2.ensures,
+          (partly_more _ _ _ _ _ _ _ (rw (next_number a.numbers.now l.before.loop.i l.loop-test.true) at l.before.loop.invariant.0) _ _ p.put2.ensures) _ _ n.put-number2.ensures,
       search rules,
       search rules,
     )
@@ -43,8 +43,8 @@ same-length-2 : tie.Need-same-length-2 invariant-loop decreases-loop
 same-length-2 c =
     let p = c.before.before in
     let l = p.before.before.before.before in
-    put-size _ _ _ _ _ p.put3.ensures ∙ put-size _ _ _ _ _ l.loop.invariant.0.put
-    ∙ put-size _ _ _ _ _ l.before.before.before.put-number.ensures
+    put_size _ _ _ _ _ p.put3.ensures ∙ put_size _ _ _ _ _ l.loop.invariant.0.put
+    ∙ put_size _ _ _ _ _ l.before.before.before.put-number.ensures
 
 returns-2 : tie.Need-returns-2 invariant-loop decreases-loop
 returns-2 c =
@@ -54,12 +54,12 @@ returns-2 c =
     let n = l.before.before.before in
     let e = n.before.before.before in
     let a = e.before.before.before.args in
-    rw (first-number a.numbers.now (omega arith))
+    rw (first_number a.numbers.now (omega arith))
     (put_then _ _ _ _ _ n.put-number.ensures _ _ _
-    (partly-last _ _ _ _ _ _ (rw (no_number a.numbers.now l.loop.i d.loop-test.false) at l.loop.invariant.0) _ _ p.put3.ensures))
+    (partly_last _ _ _ _ _ _ (rw (no_number a.numbers.now l.loop.i d.loop-test.false) at l.loop.invariant.0) _ _ p.put3.ensures))
 
-pub put-numbers-spec : {M : Type 1} → statement M
-put-numbers-spec =
+pub put_numbers_spec : {M : Type 1} → statement M
+put_numbers_spec =
     tie.close
     (tie.spec
     invariant-loop

@@ -1,18 +1,18 @@
 -- `put_refused` meets its contract: the word, and a line of one number.
-use Rattle.text.specs.Output.{refusedLine}
+use Rattle.text.specs.Output.{refused_line}
 use Rattle.text.proofs.Putting.{put_then}
 use borrow.Author.Rules.{rules}
 use Rattle.text.proofs.output.put_refused.Statement.{statement}
 use Rattle.text.proofs.output.put_refused.Tie as tie
 
 returns : tie.Need-returns
-unfolding refusedLine
+unfolding refused_line
 returns c =
     let n = c.before.before in
     put_then _ _ _ _ _ n.before.before.before.before.before.put.ensures _ _ _ n.put-numbers.ensures
 
-pub put-refused-spec : {M : Type 1} → statement M
-put-refused-spec =
+pub put_refused_spec : {M : Type 1} → statement M
+put_refused_spec =
     tie.close
     (tie.spec
     (λ c. search rules)

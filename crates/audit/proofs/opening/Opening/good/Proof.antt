@@ -1,12 +1,12 @@
 -- `Opening::good` meets its contract.
 use mathlib.Core.Path.{refl}
-use Rattle.audit.specs.Opening.{goodOpening}
+use Rattle.audit.specs.Opening.{good_opening}
 use Rattle.audit.proofs.opening.Opening.good.Statement.{statement}
 use Rattle.audit.proofs.opening.Opening.good.Tie as tie
 
 returns : tie.Need-returns
-unfolding goodOpening
+unfolding good_opening
 returns c = refl
 
-pub good-spec : {M : Type 1} → statement M
-good-spec = tie.close (tie.spec returns)
+pub good_spec : {M : Type 1} → statement M
+good_spec = tie.close (tie.spec returns)

@@ -8,8 +8,8 @@ use Rattle.audit.proofs.opening.Opening.is_decided.Tie as tie
 returns : tie.Need-returns
 returns c = ap not c.goes_on.ensures
 
-pub is-decided-spec : {M : Type 1} → statement M
-is-decided-spec =
+pub is_decided_spec : {M : Type 1} → statement M
+is_decided_spec =
     tie.close
     (tie.spec
     (λ c κs. search rules)

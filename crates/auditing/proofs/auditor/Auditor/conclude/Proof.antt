@@ -2,24 +2,24 @@
 use native.Mathlib.Omega.{arith}
 use mathlib.Core.Path.{sym}
 use borrow.Author.Rules.{rules}
-use Rattle.auditing.proofs.AuditorLaws.{was-found, answer-found, answer-unended, answer-nameless, answer-accepted}
+use Rattle.auditing.proofs.AuditorLaws.{was_found, answer_found, answer_unended, answer_nameless, answer_accepted}
 use Rattle.auditing.proofs.auditor.Auditor.conclude.Statement.{statement}
 use Rattle.auditing.proofs.auditor.Auditor.conclude.Tie as tie
 
 returns : tie.Need-returns
-returns c = sym (answer-found _ (was-found _ c.match.keys2))
+returns c = sym (answer_found _ (was_found _ c.match.keys2))
 
 returns-2 : tie.Need-returns-2
-returns-2 c = sym (answer-unended _ c.before.before.enum_told.given.1 c.if1.true)
+returns-2 c = sym (answer_unended _ c.before.before.enum_told.given.1 c.if1.true)
 
 returns-3 : tie.Need-returns-3
-returns-3 c = sym (answer-nameless _ c.before.before.before.before.enum_told.given.1 (omega arith) (omega arith))
+returns-3 c = sym (answer_nameless _ c.before.before.before.before.enum_told.given.1 (omega arith) (omega arith))
 
 returns-4 : tie.Need-returns-4
-returns-4 c = sym (answer-accepted _ c.before.before.before.before.enum_told.given.1 (omega arith) (λ e. omega arith))
+returns-4 c = sym (answer_accepted _ c.before.before.before.before.enum_told.given.1 (omega arith) (λ e. omega arith))
 
-pub conclude-spec : {M : Type 1} → statement M
-conclude-spec =
+pub conclude_spec : {M : Type 1} → statement M
+conclude_spec =
     tie.close
     (tie.spec
     (λ c. search rules)

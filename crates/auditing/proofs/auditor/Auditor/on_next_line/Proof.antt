@@ -5,15 +5,15 @@ use mathlib.Core.Path.{◌≡◌}
 use mathlib.Core.Logic.{⊎_elim}
 use borrow.Author.Rules.{rules}
 use Rattle.machine.specs.declared.machine.Machine.{Machine}
-use Rattle.auditing.specs.Auditor.{lastLine, onNextLine}
+use Rattle.auditing.specs.Auditor.{last_line, on_next_line}
 use Rattle.auditing.specs.declared.auditor.Auditor.{Auditor}
 use Rattle.auditing.proofs.auditor.Auditor.on_next_line.Statement.{statement}
 use Rattle.auditing.proofs.auditor.Auditor.on_next_line.Tie as tie
 
 with_number :
-    (a : Auditor) (m : Machine) (n : ℕ) → n ≡ min (a.line + 1) lastLine
-    → record { answer = a.answer; machine = m; line = n; kept = a.kept; used = 0 } ≡ onNextLine a m
-unfolding onNextLine
+    (a : Auditor) (m : Machine) (n : ℕ) → n ≡ min (a.line + 1) last_line
+    → record { answer = a.answer; machine = m; line = n; kept = a.kept; used = 0 } ≡ on_next_line a m
+unfolding on_next_line
 with_number a m n e = rw e
 
 returns : tie.Need-returns
@@ -21,5 +21,5 @@ returns c =
     with_number _ _ _
     (⊎_elim (λ w. omega (arith, w.0.taken, w.1)) (λ w. omega (arith, w.0.left, w.1)) c.before.if1.branch)
 
-pub on-next-line-spec : {M : Type 1} → statement M
-on-next-line-spec = tie.close (tie.spec (λ c. search rules) returns)
+pub on_next_line_spec : {M : Type 1} → statement M
+on_next_line_spec = tie.close (tie.spec (λ c. search rules) returns)

@@ -6,18 +6,18 @@ use Rattle.laws.proofs.CaseSplits.{clash}
 use Rattle.tasks.specs.declared.table.Table.{Table}
 use Rattle.tasks.specs.declared.outcome.Outcome.TheVariants as Out
 use Rattle.tasks.specs.Check.{checked}
-use Rattle.tasks.proofs.OutcomeLaws.{by-outcome}
-use Rattle.machine.specs.Calls.{done, startAfter, start}
+use Rattle.tasks.proofs.OutcomeLaws.{by_outcome}
+use Rattle.machine.specs.Calls.{done, start_after, start}
 use Rattle.machine.specs.declared.answer.Answer.{Answer}
-use Rattle.auditing.specs.Auditor.{refusedAuditor, answerAfter, startedAuditor}
+use Rattle.auditing.specs.Auditor.{refused_auditor, answer_after, started_auditor}
 use Rattle.auditing.proofs.auditor.Auditor.start.Statement.{statement}
 use Rattle.auditing.proofs.auditor.Auditor.start.Tie as tie
 
 -- a refused start
-start-refused : (t : Table) (cores number place : ℕ) → (start t cores).outcome ≡ Out.Refused number place → refusedAuditor number place ≡ startedAuditor t cores
-unfolding start startAfter startedAuditor refusedAuditor answerAfter done
+start-refused : (t : Table) (cores number place : ℕ) → (start t cores).outcome ≡ Out.Refused number place → refused_auditor number place ≡ started_auditor t cores
+unfolding start start_after started_auditor refused_auditor answer_after done
 start-refused t cores number place =
-    by-outcome (checked t cores)
+    by_outcome (checked t cores)
     (λ e. rw e (λ told. clash cc))
     (λ n p e. rw e (λ told. let same_number : n ≡ number = cc in let same_place : p ≡ place = cc in rw (same_number, same_place)))
 
@@ -27,7 +27,7 @@ returns c =
     c.refused.ensures ∙ start-refused _ _ _ _ (ap (λ (a : Answer). a.outcome) (sym o.before.before.start.ensures.is) ∙ o.outcome.given.1)
 
 returns-2 : tie.Need-returns-2
-unfolding startedAuditor answerAfter
+unfolding started_auditor answer_after
 returns-2 c = rw (← c.before.before.before.start.ensures.is, c.before.enum_told.given.1)
 
 pub start_spec : {M : Type 1} → statement M

@@ -12,8 +12,8 @@ returns-2 : tie.Need-returns-2
 unfolding aged
 returns-2 c = rw (c.if1.false, c.before.less_one.ensures)
 
-pub aged-spec : {M : Type 1} → statement M
-aged-spec = tie.close
+pub aged_spec : {M : Type 1} → statement M
+aged_spec = tie.close
     (tie.spec
     (λ c κs. search rules)
     (λ c κs. search rules)

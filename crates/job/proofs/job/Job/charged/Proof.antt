@@ -14,8 +14,8 @@ returns-2 : tie.Need-returns-2
 unfolding charged bit
 returns-2 c = rw (c.if1.false, sub-zero c.before.args.self.budget)
 
-pub charged-spec : {M : Type 1} → statement M
-charged-spec = tie.close
+pub charged_spec : {M : Type 1} → statement M
+charged_spec = tie.close
     (tie.spec
     (λ c κs. search rules)
     returns

@@ -1,16 +1,16 @@
 -- `Job::closed_sound` meets its contract.
 use borrow.Author.Tests.{eq-eqb, ne_eqb}
-use Rattle.job.specs.Sound.{closedSound}
+use Rattle.job.specs.Sound.{closed_sound}
 use Rattle.job.proofs.job.Job.closed_sound.Statement.{statement}
 use Rattle.job.proofs.job.Job.closed_sound.Tie as tie
 
 returns : tie.Need-returns
-unfolding closedSound
+unfolding closed_sound
 returns c = rw (ne_eqb _ _ c.if1.true)
 
 returns-2 : tie.Need-returns-2
-unfolding closedSound
+unfolding closed_sound
 returns-2 c = rw (eq-eqb _ _ c.before.if1.false)
 
-pub closed-sound-spec : {M : Type 1} → statement M
-closed-sound-spec = tie.close (tie.spec returns returns-2)
+pub closed_sound_spec : {M : Type 1} → statement M
+closed_sound_spec = tie.close (tie.spec returns returns-2)

@@ -1,15 +1,15 @@
 -- `Job::is_finished` meets its contract.
-use Rattle.job.specs.Slot.{isFinished}
+use Rattle.job.specs.Slot.{is_finished}
 use Rattle.job.proofs.job.Job.is_finished.Statement.{statement}
 use Rattle.job.proofs.job.Job.is_finished.Tie as tie
 
 returns : tie.Need-returns
-unfolding isFinished
+unfolding is_finished
 returns c = rw c.before.if1.true
 
 returns-2 : tie.Need-returns-2
-unfolding isFinished
+unfolding is_finished
 returns-2 c = rw c.if1.false
 
-pub is-finished-spec : {M : Type 1} → statement M
-is-finished-spec = tie.close (tie.spec returns returns-2)
+pub is_finished_spec : {M : Type 1} → statement M
+is_finished_spec = tie.close (tie.spec returns returns-2)

@@ -1,20 +1,20 @@
 -- `Job::is_late` meets its contract.
 use borrow.Author.Tests.{eq-eqb, ne_eqb}
-use Rattle.job.specs.Slot.{isLate}
+use Rattle.job.specs.Slot.{is_late}
 use Rattle.job.proofs.job.Job.is_late.Statement.{statement}
 use Rattle.job.proofs.job.Job.is_late.Tie as tie
 
 returns : tie.Need-returns
-unfolding isLate
+unfolding is_late
 returns c = rw (c.before.before.if1.true, eq-eqb _ _ c.if2.true)
 
 returns-2 : tie.Need-returns-2
-unfolding isLate
+unfolding is_late
 returns-2 c = rw (c.before.before.before.if1.true, ne_eqb _ _ c.before.if2.false)
 
 returns-3 : tie.Need-returns-3
-unfolding isLate
+unfolding is_late
 returns-3 c = rw c.if1.false
 
-pub is-late-spec : {M : Type 1} → statement M
-is-late-spec = tie.close (tie.spec returns returns-2 returns-3)
+pub is_late_spec : {M : Type 1} → statement M
+is_late_spec = tie.close (tie.spec returns returns-2 returns-3)

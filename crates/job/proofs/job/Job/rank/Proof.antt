@@ -2,7 +2,7 @@
 use mathlib.Core.Path.{sym, ◌∙◌}
 use native.Mathlib.Omega.{arith}
 use borrow.Author.Tests.{not-true, not-false}
-use Rattle.job.specs.Rank.{alikeRank, rank}
+use Rattle.job.specs.Rank.{alike_rank, rank}
 use borrow.Author.Rules.{rules}
 use Rattle.job.proofs.job.Job.rank.Statement.{statement}
 use Rattle.job.proofs.job.Job.rank.Tie as tie
@@ -23,7 +23,7 @@ returns-2 c =
 
 -- A rank fits 64 bits, since left and budget have 32.
 rank-fits : tie.Need-overflow-add-result
-unfolding alikeRank
+unfolding alike_rank
 rank-fits c =
     let e = c.before.before in
     omega (arith, e.alike-rank.ensures, e.before.before.struct_known)
@@ -38,8 +38,8 @@ returns-3 c =
       not-false e.before.before.args.self.«open» e.if1.false,
     )
 
-pub rank-spec : {M : Type 1} → statement M
-rank-spec =
+pub rank_spec : {M : Type 1} → statement M
+rank_spec =
     tie.close
     (tie.spec
     returns

@@ -20,8 +20,8 @@ returns-3 c =
     let d = c.before.before in
     rw (← d.before.is-finished.ensures, d.if1.false, ← c.before.is-late.ensures, c.if2.false)
 
-pub settled-spec : {M : Type 1} → statement M
-settled-spec =
+pub settled_spec : {M : Type 1} → statement M
+settled_spec =
     tie.close
     (tie.spec
     (λ c κs. search rules)

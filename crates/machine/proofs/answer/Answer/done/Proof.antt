@@ -8,5 +8,5 @@ returns : tie.Need-returns
 unfolding done
 returns c = rw c.none.ensures
 
-pub done-spec : {M : Type 1} → statement M
-done-spec = tie.close (tie.spec (λ c κs. search rules) returns)
+pub done_spec : {M : Type 1} → statement M
+done_spec = tie.close (tie.spec (λ c κs. search rules) returns)

@@ -1,11 +1,11 @@
 -- `Report::none` meets its contract.
 use mathlib.Core.Path.{refl}
-use Rattle.machine.specs.Slot.{noReport}
+use Rattle.machine.specs.Slot.{no_report}
 use Rattle.machine.proofs.answer.Report.none.Statement.{statement}
 use Rattle.machine.proofs.answer.Report.none.Tie as tie
 
 returns : tie.Need-returns
-unfolding noReport
+unfolding no_report
 returns c = refl
 
 pub none_spec : {M : Type 1} → statement M

@@ -12,5 +12,5 @@ returns-2 : tie.Need-returns-2
 unfolding in_table
 returns-2 c = rw (le-leb _ _ c.before.if1.false)
 
-pub in-table-spec : {M : Type 1} → statement M
-in-table-spec = tie.close (tie.spec returns returns-2)
+pub in_table_spec : {M : Type 1} → statement M
+in_table_spec = tie.close (tie.spec returns returns-2)

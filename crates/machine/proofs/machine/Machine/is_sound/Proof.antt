@@ -5,21 +5,21 @@ use mathlib.Core.Bool.{true, ◌&&◌}
 use native.Mathlib.Omega.{arith}
 use lib.ListN.{length, take}
 use lib.Seq.{length-take-le}
-use Rattle.laws.proofs.Booleans.{was-true, was-false}
+use Rattle.laws.proofs.Booleans.{was_true, was_false}
 use Rattle.tasks.proofs.Checked.{passes}
 use Rattle.tasks.specs.declared.outcome.Outcome.TheVariants.{Done}
 use Rattle.tasks.specs.Check.{checked}
-use Rattle.tasks.specs.Outcome.{isDone}
-use Rattle.cores.specs.Record.{coresSound}
-use Rattle.machine.specs.Offer.{heldSound}
-use Rattle.machine.specs.Sound.{jobsSound, sound}
+use Rattle.tasks.specs.Outcome.{is_done}
+use Rattle.cores.specs.Record.{cores_sound}
+use Rattle.machine.specs.Offer.{held_sound}
+use Rattle.machine.specs.Sound.{jobs_sound, sound}
 use Rattle.machine.specs.declared.machine.Machine.{Machine}
 use borrow.Author.Rules.{rules}
 use Rattle.machine.proofs.machine.Machine.is_sound.Statement.{statement}
 use Rattle.machine.proofs.machine.Machine.is_sound.Tie as tie
 
 returns : tie.Need-returns
-unfolding sound isDone
+unfolding sound is_done
 returns c = rw (← c.before.before.check.ensures, c.enum_told.given.1)
 
 -- past the check of the table and the cores, the table has 32 tasks at most
@@ -33,18 +33,18 @@ jobs-sound-requires : tie.Need-jobs-sound-requires
 jobs-sound-requires c κs = fits c
 
 returns-2 : tie.Need-returns-2
-unfolding sound isDone
+unfolding sound is_done
 returns-2 c =
     let j = c.before in
-    rw (checks j.before, was-false j.jobs-sound.ensures c.if1.true)
+    rw (checks j.before, was_false j.jobs-sound.ensures c.if1.true)
 
 -- the machine, past its jobs
 abbrev self-at : tie.Else1 → Machine
 self-at c = c.before.before.before.before.before.before.args.self
 
-before-cores : (c : tie.Else1) → (isDone (checked (self-at c).table (self-at c).cores) && jobsSound (self-at c) (self-at c).table.count) ≡ true
-unfolding isDone
-before-cores c = rw (checks c.before.before, was-true c.before.jobs-sound.ensures c.if1.false)
+before_cores : (c : tie.Else1) → (is_done (checked (self-at c).table (self-at c).cores) && jobs_sound (self-at c) (self-at c).table.count) ≡ true
+unfolding is_done
+before_cores c = rw (checks c.before.before, was_true c.before.jobs-sound.ensures c.if1.false)
 
 array-share-prefix-recorded : tie.Need-array-share-prefix-recorded
 array-share-prefix-recorded c =
@@ -58,27 +58,27 @@ returns-3 : tie.Need-returns-3
 unfolding sound
 returns-3 c =
     let s = c.before in
-    rw (before-cores s.before.before.before, was-false s.cores-sound.ensures c.if2.true)
+    rw (before_cores s.before.before.before, was_false s.cores-sound.ensures c.if2.true)
 
 -- past the recorded cores
-cores-sound : (c : tie.Else2) → let m = self-at c.before.before.before.before in coresSound (take m.table.count m.assigned) ≡ true
-cores-sound c = was-true c.before.cores-sound.ensures c.if2.false
+cores-sound : (c : tie.Else2) → let m = self-at c.before.before.before.before in cores_sound (take m.table.count m.assigned) ≡ true
+cores-sound c = was_true c.before.cores-sound.ensures c.if2.false
 
 returns-4 : tie.Need-returns-4
-unfolding sound heldSound
+unfolding sound held_sound
 returns-4 c =
     let d = c.before.before in
-    rw (before-cores d.before.before.before.before, cores-sound d, c.enum-told3.given.1)
+    rw (before_cores d.before.before.before.before, cores-sound d, c.enum-told3.given.1)
 
 returns-5 : tie.Need-returns-5
-unfolding sound heldSound
+unfolding sound held_sound
 returns-5 c =
     let h = c.before.before in
     let d = h.before.before in
-    rw (before-cores d.before.before.before.before, cores-sound d, h.held.given.1) c.takes-offer.ensures
+    rw (before_cores d.before.before.before.before, cores-sound d, h.held.given.1) c.takes-offer.ensures
 
-pub is-sound-spec : {M : Type 1} → statement M
-is-sound-spec =
+pub is_sound_spec : {M : Type 1} → statement M
+is_sound_spec =
     tie.close
     (tie.spec
     (λ c κs. search rules)

@@ -6,17 +6,17 @@ use mathlib.Core.Path.{◌≡◌, refl, sym, ap, ◌∙◌}
 use borrow.Author.Rules.{rules}
 use lib.ListN.{length, take, length-set}
 use lib.Seq.{length-take-le, take-suc-set}
-use Rattle.laws.proofs.SumLaws.{count-bound}
-use Rattle.tasks.specs.Limits.{maxTasks}
-use Rattle.machine.specs.Machine.{jobAt}
-use Rattle.job.specs.Search.{nextRunner}
+use Rattle.laws.proofs.SumLaws.{count_bound}
+use Rattle.tasks.specs.Limits.{max_tasks}
+use Rattle.machine.specs.Machine.{job_at}
+use Rattle.job.specs.Search.{next_runner}
 use Rattle.job.proofs.Next.{Found}
-use Rattle.machine.specs.Pick.{openCount, candidates, withPicked, pick}
-use Rattle.machine.specs.Cores.{runnerOrder}
+use Rattle.machine.specs.Pick.{open_count, candidates, with_picked, pick}
+use Rattle.machine.specs.Cores.{runner_order}
 use Rattle.machine.specs.Ranks.{ranks}
-use Rattle.machine.proofs.SoundLaws.{sound-passes}
-use Rattle.machine.proofs.PickLaws.{length-pick, next-in}
-use Rattle.machine.proofs.RanksLaws.{length-ranks, ranks-picked, ranked-runner}
+use Rattle.machine.proofs.SoundLaws.{sound_passes}
+use Rattle.machine.proofs.PickLaws.{length_pick, next_in}
+use Rattle.machine.proofs.RanksLaws.{length_ranks, ranks_picked, ranked_runner}
 use Rattle.machine.proofs.machine.Machine.pick.Statement.{statement}
 use Rattle.machine.proofs.machine.Machine.pick.Tie as tie
 
@@ -25,46 +25,46 @@ invariant-loop self wanted order₀ waiting₀ ran₀ picked₀ order waiting ra
     (picked ≤ wanted)
     × (ran ≡ pick self picked)
     × (waiting ≡ ranks self (pick self picked))
-    × (length order ≡ maxTasks)
-    × (take picked order ≡ runnerOrder self picked)
+    × (length order ≡ max_tasks)
+    × (take picked order ≡ runner_order self picked)
 
 abbrev decreases-loop : tie.decreases-loop
 decreases-loop self wanted order₀ waiting₀ ran₀ picked₀ order waiting ran picked = wanted - picked
 
-fits : (c : tie.Start invariant-loop decreases-loop) → c.args.self.table.count ≤ maxTasks
-fits c = (sound-passes c.args.self c.requires.0).count_fits
+fits : (c : tie.Start invariant-loop decreases-loop) → c.args.self.table.count ≤ max_tasks
+fits c = (sound_passes c.args.self c.requires.0).count_fits
 
 -- every task has its rank
 has_all : (c : tie.At-loop invariant-loop decreases-loop) → c.before.before.args.self.table.count ≤ length c.loop.waiting
 has_all c =
     let m = c.before.before.args.self in
-    omega (arith, fits c.before.before, ap length c.loop.invariant.2, length-ranks m (pick m c.loop.picked))
+    omega (arith, fits c.before.before, ap length c.loop.invariant.2, length_ranks m (pick m c.loop.picked))
 
 -- the next runner of the picks so far
 runner : (c : tie.In-loop invariant-loop decreases-loop) → let m = c.before.before.before.args.self in Found (candidates m (pick m c.before.loop.picked))
 runner c =
     let l = c.before in
-    next-in l.before.before.args.self (fits l.before.before) l.loop.picked (omega arith)
+    next_in l.before.before.args.self (fits l.before.before) l.loop.picked (omega arith)
 
 -- the number found is that of the next runner
-is-next : (c : tie.After-next-runner invariant-loop decreases-loop) → c.next-runner.result ≡ suc (runner c.before.before).index
-is-next c =
+is_next_lem : (c : tie.After-next-runner invariant-loop decreases-loop) → c.next_runner_lem.result ≡ suc (runner c.before.before).index
+is_next_lem c =
     let l = c.before.before.before in
     let m = l.before.before.args.self in
-    c.next-runner.ensures
-    ∙ ranked-runner _ m (pick m l.loop.picked) l.before.before.requires.0 (ap (take m.table.count) l.loop.invariant.2)
+    c.next_runner_lem.ensures
+    ∙ ranked_runner _ m (pick m l.loop.picked) l.before.before.requires.0 (ap (take m.table.count) l.loop.invariant.2)
     ∙ (runner c.before.before).number_is
 
 -- as an index
-at-index : (c : tie.After-next-runner invariant-loop decreases-loop) → c.next-runner.result - 1 ≡ (runner c.before.before).index
-at-index c = omega (arith, is-next c)
+at-index : (c : tie.After-next-runner invariant-loop decreases-loop) → c.next_runner_lem.result - 1 ≡ (runner c.before.before).index
+at-index c = omega (arith, is_next_lem c)
 
-inside : (c : tie.After-next-runner invariant-loop decreases-loop) → c.next-runner.result - 1 < c.before.before.before.before.before.args.self.table.count
+inside : (c : tie.After-next-runner invariant-loop decreases-loop) → c.next_runner_lem.result - 1 < c.before.before.before.before.before.args.self.table.count
 unfolding candidates
 inside c = rw (at-index c) (runner c.before.before).next.inside
 
 loop-holds : tie.Need-loop-init invariant-loop decreases-loop
-unfolding pick runnerOrder
+unfolding pick runner_order
 loop-holds c = (omega arith, refl, c.before.requires.1, c.before.requires.3, refl)
 
 array-share-prefix-waiting : tie.Need-array-share-prefix-waiting invariant-loop decreases-loop
@@ -74,18 +74,18 @@ slice-aggregate-next-runner : tie.Need-slice-aggregate-next-runner invariant-loo
 slice-aggregate-next-runner c = sym (length-take-le _ _ (has_all c.before.before))
 
 sub-next : tie.Need-overflow-sub-next invariant-loop decreases-loop
-sub-next c = omega (arith, is-next c)
+sub-next c = omega (arith, is_next_lem c)
 
 array-write-ran : tie.Need-array-write-ran invariant-loop decreases-loop
 array-write-ran c = omega (arith, inside c, fits c.before.before.before.before.before)
 
 -- no more are picked than the table has tasks
 few : (c : tie.After-next-runner invariant-loop decreases-loop) → c.before.before.before.loop.picked < 32
-unfolding openCount
+unfolding open_count
 few c =
     let l = c.before.before.before in
     let m = l.before.before.args.self in
-    let few-open : openCount m ≤ m.table.count = count-bound (λ i. (jobAt m i).«open») m.table.count in
+    let few-open : open_count m ≤ m.table.count = count_bound (λ i. (job_at m i).«open») m.table.count in
     omega (arith, fits l.before.before, c.before.before.loop-test.true, l.before.before.requires.2)
 
 mul-waiting : tie.Need-overflow-mul-waiting invariant-loop decreases-loop
@@ -102,23 +102,23 @@ index_of : (i : ℕ) → suc i - 1 ≡ i
 index_of i = omega arith
 
 loop-again : tie.Need-loop-preserved invariant-loop decreases-loop
-unfolding pick withPicked candidates runnerOrder
+unfolding pick with_picked candidates runner_order
 loop-again c =
     let l = c.before.before.before in
     let m = l.before.before.args.self in
     let k = l.loop.picked in
     let next = runner c.before.before in
-    let listed : c.next-runner.result - 1 ≡ nextRunner (candidates m (pick m k)) - 1 = rw (next.number_is, index_of next.index) (at-index c) in (
+    let listed : c.next_runner_lem.result - 1 ≡ next_runner (candidates m (pick m k)) - 1 = rw (next.number_is, index_of next.index) (at-index c) in (
       omega arith,
       rw (add-one k, l.loop.invariant.1, at-index c, next.number_is),
       rw (add-one k, l.loop.invariant.2, at-index c, next.number_is)
-          (ranks-picked m (pick m k) next.index
-          (omega (arith, next.next.inside, fits l.before.before, length-pick m k))
+          (ranks_picked m (pick m k) next.index
+          (omega (arith, next.next.inside, fits l.before.before, length_pick m k))
           next.next.inside
           (fits l.before.before)),
       length-set l.loop.order k _ ∙ l.loop.invariant.3,
       rw (add-one k)
-          (take-suc-set l.loop.order k (c.next-runner.result - 1) (omega (arith, few c, l.loop.invariant.3)) ∙ rw (l.loop.invariant.4, listed)),
+          (take-suc-set l.loop.order k (c.next_runner_lem.result - 1) (omega (arith, few c, l.loop.invariant.3)) ∙ rw (l.loop.invariant.4, listed)),
     )
 
 same_length : tie.Need-same-length invariant-loop decreases-loop

@@ -1,16 +1,16 @@
 -- `Machine::slot_cores_in_range` meets its contract.
 use borrow.Author.Tests.{le-leb, lt-leb}
-use Rattle.machine.specs.Calls.{slotCoresInRange}
+use Rattle.machine.specs.Calls.{slot_cores_in_range}
 use Rattle.machine.proofs.machine.Machine.slot_cores_in_range.Statement.{statement}
 use Rattle.machine.proofs.machine.Machine.slot_cores_in_range.Tie as tie
 
 returns : tie.Need-returns
-unfolding slotCoresInRange
+unfolding slot_cores_in_range
 returns c = rw (lt-leb _ _ c.if1.true)
 
 returns-2 : tie.Need-returns-2
-unfolding slotCoresInRange
+unfolding slot_cores_in_range
 returns-2 c = rw (le-leb _ _ c.if1.false)
 
-pub slot-cores-in-range-spec : {M : Type 1} → statement M
-slot-cores-in-range-spec = tie.close (tie.spec returns returns-2)
+pub slot_cores_in_range_spec : {M : Type 1} → statement M
+slot_cores_in_range_spec = tie.close (tie.spec returns returns-2)

@@ -1,15 +1,15 @@
 -- `Machine::with_joined` meets its contract.
-use Rattle.machine.specs.Calls.{withJoined}
+use Rattle.machine.specs.Calls.{with_joined}
 use borrow.Author.Rules.{rules}
 use Rattle.machine.proofs.machine.Machine.with_joined.Statement.{statement}
 use Rattle.machine.proofs.machine.Machine.with_joined.Tie as tie
 
 returns : tie.Need-returns
-unfolding withJoined
+unfolding with_joined
 returns c = rw (c.before.before.before.longer-table.ensures, c.before.fresh-job.ensures)
 
-pub with-joined-spec : {M : Type 1} → statement M
-with-joined-spec =
+pub with_joined_spec : {M : Type 1} → statement M
+with_joined_spec =
     tie.close
     (tie.spec
     (λ c κs. search rules)

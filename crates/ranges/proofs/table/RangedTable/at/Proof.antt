@@ -5,42 +5,42 @@ use mathlib.Core.Path.{◌≡◌, refl, ap}
 use lib.ListN.{get_or}
 use borrow.Author.Rules.{rules}
 use Rattle.laws.specs.Lists.{replaced}
-use Rattle.laws.proofs.Replaced.{replaced-more}
+use Rattle.laws.proofs.Replaced.{replaced_more}
 use Rattle.tasks.specs.declared.table.Table.{Table}
-use Rattle.tasks.specs.Limits.{maxTasks}
-use Rattle.tasks.specs.Table.{emptyTable}
-use Rattle.ranges.specs.Ranges.{zeroRangedTask, cornerTask, cornerTable}
+use Rattle.tasks.specs.Limits.{max_tasks}
+use Rattle.tasks.specs.Table.{empty_table}
+use Rattle.ranges.specs.Ranges.{zero_ranged_task, corner_task, corner_table}
 use Rattle.ranges.proofs.table.RangedTable.at.Statement.{statement}
 use Rattle.ranges.proofs.table.RangedTable.at.Tie as tie
 
 abbrev invariant-loop : tie.invariant-loop
 invariant-loop corner self table₀ i₀ table i =
-    (i ≤ maxTasks)
+    (i ≤ max_tasks)
     × (table.count ≡ self.count)
-    × (table.tasks ≡ replaced i (λ j. cornerTask corner (get_or self.tasks j zeroRangedTask)) emptyTable.tasks)
+    × (table.tasks ≡ replaced i (λ j. corner_task corner (get_or self.tasks j zero_ranged_task)) empty_table.tasks)
 
 abbrev decreases-loop : tie.decreases-loop
-decreases-loop corner self table₀ i₀ table i = maxTasks - i
+decreases-loop corner self table₀ i₀ table i = max_tasks - i
 
 loop-holds : tie.Need-loop-init invariant-loop decreases-loop
 unfolding replaced
 loop-holds c = (omega arith, refl, ap (λ (t : Table). t.tasks) c.empty.ensures)
 
 loop-again : tie.Need-loop-preserved invariant-loop decreases-loop
-unfolding zeroRangedTask
+unfolding zero_ranged_task
 loop-again c =
     let l = c.before.before.before in
-    (omega arith, l.loop.invariant.1, replaced-more _ _ _ l.loop.invariant.2 c.at.ensures)
+    (omega arith, l.loop.invariant.1, replaced_more _ _ _ l.loop.invariant.2 c.at.ensures)
 
 returns : tie.Need-returns invariant-loop decreases-loop
-unfolding cornerTable
+unfolding corner_table
 returns c =
     let l = c.before in
-    let whole : l.loop.i ≡ maxTasks = omega (arith, l.loop.invariant.0, c.loop-test.false) in
+    let whole : l.loop.i ≡ max_tasks = omega (arith, l.loop.invariant.0, c.loop-test.false) in
     rw (← l.loop.invariant.1, ← whole, ← l.loop.invariant.2)
 
-pub at-spec : {M : Type 1} → statement M
-at-spec =
+pub at_spec : {M : Type 1} → statement M
+at_spec =
     tie.close
     (tie.spec
     invariant-loop

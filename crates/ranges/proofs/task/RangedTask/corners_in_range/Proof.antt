@@ -2,37 +2,37 @@
 use mathlib.Core.Path.{◌≡◌, ap, ◌∙◌}
 use mathlib.Core.Bool.{Bool, true, false}
 use borrow.Author.Rules.{rules}
-use Rattle.laws.proofs.Booleans.{was-true, was-false}
+use Rattle.laws.proofs.Booleans.{was_true, was_false}
 use Rattle.tasks.specs.Task.{in_range}
 use Rattle.ranges.specs.declared.corner.Corner.TheVariants.{Dearest, Cheapest}
 use Rattle.ranges.specs.declared.task.RangedTask.{RangedTask}
-use Rattle.ranges.specs.Ranges.{cornerTask}
-use Rattle.ranges.specs.Check.{cornersInRange}
+use Rattle.ranges.specs.Ranges.{corner_task}
+use Rattle.ranges.specs.Check.{corners_in_range}
 use Rattle.ranges.proofs.task.RangedTask.corners_in_range.Statement.{statement}
 use Rattle.ranges.proofs.task.RangedTask.corners_in_range.Tie as tie
 
-dearest-out : (r : RangedTask) → in_range (cornerTask Dearest r) ≡ false → false ≡ cornersInRange r
-unfolding cornersInRange
+dearest-out : (r : RangedTask) → in_range (corner_task Dearest r) ≡ false → false ≡ corners_in_range r
+unfolding corners_in_range
 dearest-out r e = rw e
 
-dearest-in : (r : RangedTask) (b : Bool) → in_range (cornerTask Dearest r) ≡ true → b ≡ in_range (cornerTask Cheapest r) → b ≡ cornersInRange r
-unfolding cornersInRange
+dearest-in : (r : RangedTask) (b : Bool) → in_range (corner_task Dearest r) ≡ true → b ≡ in_range (corner_task Cheapest r) → b ≡ corners_in_range r
+unfolding corners_in_range
 dearest-in r b e cheapest = rw e cheapest
 
 returns : tie.Need-returns
 returns c =
     let d = c.before in
-    dearest-out _ (was-false (d.in-range.ensures ∙ ap in_range d.before.at.ensures) c.if1.taken)
+    dearest-out _ (was_false (d.in_range_lem.ensures ∙ ap in_range d.before.at.ensures) c.if1.taken)
 
 returns-2 : tie.Need-returns-2
 returns-2 c =
     let e = c.before in
     let d = e.before.before in
-    dearest-in _ _ (was-true (d.in-range.ensures ∙ ap in_range d.before.at.ensures) e.before.if1.left)
+    dearest-in _ _ (was_true (d.in_range_lem.ensures ∙ ap in_range d.before.at.ensures) e.before.if1.left)
     (c.in-range2.ensures ∙ ap in_range e.at2.ensures)
 
-pub corners-in-range-spec : {M : Type 1} → statement M
-corners-in-range-spec =
+pub corners_in_range_spec : {M : Type 1} → statement M
+corners_in_range_spec =
     tie.close
     (tie.spec
     (λ c κs. search rules)

@@ -23,5 +23,5 @@ returns-4 c =
     let e = c.before in
     rw (le-leb _ _ e.before.before.before.before.if1.false, le-leb _ _ e.before.before.if2.false, le-leb _ _ e.if3.false)
 
-pub in-range-spec : {M : Type 1} → statement M
-in-range-spec = tie.close (tie.spec returns returns-2 returns-3 returns-4)
+pub in_range_spec : {M : Type 1} → statement M
+in_range_spec = tie.close (tie.spec returns returns-2 returns-3 returns-4)
