@@ -1,4 +1,6 @@
 // EDZL on plain numbers: the definitions stand in specs/, the theory in proofs/. Here is what the code of the tests computes with.
+#![tactic(auto)]
+
 ghost use Rattle.std.specs.Prelude.{◌≡◌, ◌-◌, min};
 
 // The smaller of two numbers.

@@ -19,4 +19,4 @@ first_true p (suc k) e =
     (λ t. (0, omega arith, t, λ i h. absurd (omega arith)))
     (λ f.
     let (j, within, holds, before) = first_true (λ i. p (suc i)) k e in
-    (suc j, omega arith, holds, λ i. elim i [ zero ↦ λ h. f | suc i' ↦ λ h. before i' (omega arith) ]))
+    (suc j, omega arith, holds, λ i. elim i as (λ i. i < suc j → p i ≡ false) [ zero ↦ λ h. f | suc i' ↦ λ h. before i' (omega arith) ]))

@@ -1,4 +1,6 @@
 // Task tables: the types, the limits, the refusal numbers, and whether a table and a number of cores can be used.
+#![tactic(auto)]
+
 pub mod check;
 pub mod flags;
 pub mod limits;

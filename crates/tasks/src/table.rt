@@ -6,7 +6,7 @@ use crate::limits::MAX_TASKS;
 use crate::task::Task;
 
 // The first `count` entries are the table's tasks; the entries after them are no part of it.
-#[derive(Drop)]
+#[derive(Clone, Copy)]
 pub struct Table {
     pub count: usize,
     pub tasks: [Task; MAX_TASKS],

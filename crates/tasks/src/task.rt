@@ -5,7 +5,7 @@ ghost use Rattle.tasks.specs.Task.{in_range};
 use crate::limits::MAX_PERIOD;
 
 // A task's three whole numbers, in slots: T, C and D of document 01.
-#[derive(Drop)]
+#[derive(Clone, Copy)]
 pub struct Task {
     pub period: u32,
     pub budget: u32,

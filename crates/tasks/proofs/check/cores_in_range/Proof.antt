@@ -4,13 +4,15 @@ use Rattle.tasks.specs.Check.{cores_in_range}
 use Rattle.tasks.proofs.check.cores_in_range.Statement.{statement}
 use Rattle.tasks.proofs.check.cores_in_range.Tie as tie
 
-returns : tie.Need-returns
+returns : tie.Need-returns-then-cores-lt1
 unfolding cores_in_range
-returns c = rw (lt-leb 1 _ c.if1.true)
+returns c = rw (lt-leb 1 _ c.if-cores-lt1.true)
 
-returns-2 : tie.Need-returns-2
+returns-2 : tie.Need-returns
 unfolding cores_in_range
-returns-2 c = rw (le-leb 1 _ c.if1.false)
+returns-2 c = rw (le-leb 1 _ c.if-cores-lt1.false)
 
 pub cores_in_range_spec : {M : Type 1} → statement M
-cores_in_range_spec = tie.close (tie.spec returns returns-2)
+cores_in_range_spec = tie.close (tie.spec
+    returns
+    returns-2)

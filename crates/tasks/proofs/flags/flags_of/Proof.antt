@@ -5,17 +5,17 @@ use Rattle.tasks.proofs.FlagsLaws.{Named, named_none, named_more, named_all}
 use Rattle.tasks.proofs.flags.flags_of.Statement.{statement}
 use Rattle.tasks.proofs.flags.flags_of.Tie as tie
 
-abbrev invariant-loop : tie.invariant-loop
+abbrev invariant-loop : tie.invariant-loop-i
 invariant-loop sum named₀ rest₀ i₀ named rest i = Named sum named rest i
 
-abbrev decreases-loop : tie.decreases-loop
+abbrev decreases-loop : tie.decreases-loop-i
 decreases-loop sum named₀ rest₀ i₀ named rest i = 32 - i
 
-loop-again : tie.Need-loop-preserved invariant-loop decreases-loop
-loop-again c = named_more _ _ _ _ c.before.loop.invariant c.loop-test.true
+loop-again : tie.Need-loop-i-preserved invariant-loop decreases-loop
+loop-again c = named_more _ _ _ _ c.before.loop-i.invariant c.loop-i-test.true
 
 returns : tie.Need-returns invariant-loop decreases-loop
-returns c = named_all _ _ _ _ c.before.loop.invariant (omega (arith, c.before.loop.invariant.within))
+returns c = named_all _ _ _ _ c.before.loop-i.invariant (omega (arith, c.before.loop-i.invariant.within))
 
 pub flags_of_spec : {M : Type 1} → statement M
 flags_of_spec =
