@@ -6,7 +6,7 @@ use crate::number;
 use crate::number::Before;
 
 // The numbers of a line of three fields, in their order, or that they are not three numbers. The line is `length` bytes long.
-#[derive(Drop)]
+#[derive(Clone, Copy)]
 pub enum Numbers {
     Three {
         first: u32,

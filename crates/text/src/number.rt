@@ -5,14 +5,14 @@ ghost use Rattle.text.specs.Number.{is_digit, number_of, number_up_to, number_af
 use crate::bytes;
 
 // The number that a field is, or that it is none.
-#[derive(Drop)]
+#[derive(Clone, Copy)]
 pub enum Number {
     Read(u32),
     Broken,
 }
 
 // A number that is `length` bytes long, at the start of a text, or that there is none.
-#[derive(Drop)]
+#[derive(Clone, Copy)]
 pub enum Before {
     Read { number: u32, length: usize },
     Broken,

@@ -6,14 +6,14 @@ use borrow.Author.Rules.{rules}
 use Rattle.text.proofs.bytes.begins_with.Statement.{statement}
 use Rattle.text.proofs.bytes.begins_with.Tie as tie
 
-returns : tie.Need-returns
-returns c = longer _ _ c.if1.true
+returns : tie.Need-returns-then-text-length
+returns c = longer _ _ c.if-text-length.true
 
-slice-aggregate-same : tie.Need-slice-aggregate-same
-slice-aggregate-same c = sym (length-take-le _ _ c.before.if1.false)
+slice-aggregate-same : tie.Need-slice_bounds-same-end
+slice-aggregate-same c = sym (length-take-le _ _ c.if-text-length.false)
 
-returns-2 : tie.Need-returns-2
-returns-2 c = c.same.ensures ∙ same_begins _ _ c.before.before.if1.false
+returns-2 : tie.Need-returns
+returns-2 c = c.same.ensures ∙ same_begins _ _ c.if-text-length.false
 
 pub begins_with_spec : {M : Type 1} → statement M
 begins_with_spec = tie.close

@@ -6,11 +6,11 @@ use Rattle.text.proofs.Split.{before_fits, before_front}
 use Rattle.text.proofs.bytes.field_up_to.Statement.{statement}
 use Rattle.text.proofs.bytes.field_up_to.Tie as tie
 
-slice-aggregate-result : tie.Need-slice-aggregate-result
-slice-aggregate-result c = sym (length-take-le _ _ (rw c.before.find.ensures (before_fits _ _)))
+slice-aggregate-result : tie.Need-slice_bounds-result-end
+slice-aggregate-result c = sym (length-take-le _ _ (rw c.find-length.ensures (before_fits _ _)))
 
 returns : tie.Need-returns
-returns c = rw c.before.find.ensures (before_front _ _)
+returns c = rw c.find-length.ensures (before_front _ _)
 
 pub field_up_to_spec : {M : Type 1} → statement M
 field_up_to_spec = tie.close

@@ -10,29 +10,28 @@ use Rattle.text.proofs.WordLaws.{other_length, same_next, all_agree}
 use Rattle.text.proofs.bytes.same.Statement.{statement}
 use Rattle.text.proofs.bytes.same.Tie as tie
 
-abbrev invariant-loop : tie.invariant-loop
+abbrev invariant-loop : tie.invariant-loop-i
 invariant-loop a b equal₀ i₀ equal i =
     (i ≤ length a) × (length a ≡ length b) × (same_bytes a b ≡ (equal && same_bytes (drop i a) (drop i b)))
 
-abbrev decreases-loop : tie.decreases-loop
+abbrev decreases-loop : tie.decreases-loop-i
 decreases-loop a b equal₀ i₀ equal i = length a - i
 
-returns : tie.Need-returns invariant-loop decreases-loop
-returns c = other_length _ _ c.if1.true
+returns : tie.Need-returns-then-a-b invariant-loop decreases-loop
+returns c = other_length _ _ c.if-a-b.true
 
-loop-holds : tie.Need-loop-init invariant-loop decreases-loop
-loop-holds c = (omega arith, c.if1.false, refl)
+loop-holds : tie.Need-loop-i-init invariant-loop decreases-loop
+loop-holds c = (omega arith, c.if-a-b.false, refl)
 
-loop-again : tie.Need-loop-preserved invariant-loop decreases-loop
+loop-again : tie.Need-loop-i-preserved invariant-loop decreases-loop
 loop-again c =
-    let d = c.before.before in
-    let h = d.before.loop.invariant in
-    (omega arith, h.1, h.2 ∙ same_next _ _ _ h.1 d.loop-test.true d.before.loop.equal)
+    let h = c.loop-i.invariant in
+    (omega arith, h.1, h.2 ∙ same_next _ _ _ h.1 c.loop-i-test.true c.loop-i.equal)
 
-returns-2 : tie.Need-returns-2 invariant-loop decreases-loop
+returns-2 : tie.Need-returns invariant-loop decreases-loop
 returns-2 c =
-    let h = c.before.loop.invariant in
-    sym (h.2 ∙ rw (all_agree _ _ _ h.1 c.loop-test.false) (and-true _))
+    let h = c.loop-i.invariant in
+    sym (h.2 ∙ rw (all_agree _ _ _ h.1 c.loop-i-test.false) (and-true _))
 
 pub same_spec : {M : Type 1} → statement M
 same_spec =

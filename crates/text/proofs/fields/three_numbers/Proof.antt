@@ -15,85 +15,69 @@ use Rattle.text.proofs.fields.three_numbers.Statement.{statement}
 use Rattle.text.proofs.fields.three_numbers.Tie as tie
 
 -- the text, and the place after its first number and space, from that of the second number
-abbrev text : tie.After-a → List ℕ
-text c = c.before.before.before.before.args.text.now
+abbrev text : tie.In-Read → List ℕ
+text c = c.args.text.now
 
-abbrev at_first : tie.After-rest → tie.Else1
+abbrev at_first : tie.After-rest-1 → tie.Else-text-length
 at_first c = c.before
 
 -- the numbers that were read
-first : (c : tie.After-a) → number_up_to c.before.before.before.before.args.digits c.before.before.before.before.args.largest space (text c) ≡ Read c.a.given.0.0 c.a.given.0.1.0
-first c = sym c.before.before.number-up-to.ensures ∙ c.a.given.1
+first : (c : tie.In-Read) → number_up_to c.args.digits c.args.largest space (text c) ≡ Read c.in-Read.a c.in-Read.length
+first c = sym c.number_up_to.ensures ∙ c.in-Read.is
 
-abbrev first_of : tie.After-b → tie.After-a
-first_of c = c.before.before.before.before.before.before
+abbrev first_of : tie.In-Read-number_up_to → tie.In-Read
+first_of c = c.before.before.before.before
 
 second :
-    (c : tie.After-b)
-    → let a = first_of c in
-    let s = a.before.before.before.before.args in
-    number_up_to s.digits s.largest space (past (text a) a.a.given.0.1.0) ≡ Read c.b.given.0.0 c.b.given.0.1.0
-second c = sym c.before.before.number-up-to2.ensures ∙ c.b.given.1
+    (c : tie.In-Read-number_up_to)
+    → let s = c.args in
+    number_up_to s.digits s.largest space (past (text c.before.before.before.before) c.in-Read.length) ≡ Read c.in-Read-number_up_to.b c.in-Read-number_up_to.more
+second c = sym c.number_up_to-2.ensures ∙ c.in-Read-number_up_to.is
 
-abbrev second-of : tie.After-c → tie.After-b
-second-of c = c.before.before.before.before.before.before
+abbrev second-of : tie.In-Read-number_up_to-2 → tie.In-Read-number_up_to
+second-of c = c.before.before.before.before
 
 third :
-    (c : tie.After-c)
-    → let b = second-of c in
-    let a = first_of b in
-    let s = a.before.before.before.before.args in
-    number_up_to s.digits s.largest line_end (past (past (text a) a.a.given.0.1.0) b.b.given.0.1.0)
-    ≡ Read c.c.given.0.0 c.c.given.0.1.0
-third c = sym c.before.before.number-up-to3.ensures ∙ c.c.given.1
+    (c : tie.In-Read-number_up_to-2)
+    → let s = c.args in
+    number_up_to s.digits s.largest line_end (past (past (text c.before.before.before.before.before.before.before.before) c.in-Read.length) c.in-Read-number_up_to.more)
+    ≡ Read c.in-Read-number_up_to-2.c c.in-Read-number_up_to-2.most
+third c = sym c.number_up_to-3.ensures ∙ c.in-Read-number_up_to-2.is
 
-returns : tie.Need-returns
-returns c = no_first _ _ _ (sym c.before.before.number-up-to.ensures ∙ c.enum_told.given.1)
+returns : tie.Need-returns-in_default
+returns c = no_first _ _ _ (sym c.number_up_to.ensures ∙ c.in_default.is)
 
-returns-2 : tie.Need-returns-2
-returns-2 c = let a = c.before.before in one_field _ _ _ _ _ (first a) c.if1.true
+returns-2 : tie.Need-returns-then-text-length
+returns-2 c = one_field _ _ _ _ _ (first c.before) c.if-text-length.true
 
-returns-3 : tie.Need-returns-3
-returns-3 c = let n = c.before.before in let d = at_first n.before in no_second _ _ _ _ _ (first d.before.before) d.if1.left (sym n.number-up-to2.ensures ∙ c.enum-told2.given.1)
+returns-3 : tie.Need-returns-in_default-number_up_to
+returns-3 c = no_second _ _ _ _ _ (first c.before.before.before.before) c.if-text-length.false (sym c.number_up_to-2.ensures ∙ c.in_default-number_up_to.is)
 
-returns-4 : tie.Need-returns-4
-returns-4 c = let b = c.before.before in let d = at_first b.before.before.before in two_fields _ _ _ _ _ (first d.before.before) d.if1.left _ _ (second b) c.if2.true
+returns-4 : tie.Need-returns-then-rest-more
+returns-4 c = two_fields _ _ _ _ _ (first c.before.before.before.before.before) c.if-text-length.false _ _ (second c.before) c.if-rest-more.true
 
-returns-5 : tie.Need-returns-5
+returns-5 : tie.Need-returns-in_default-number_up_to-2
 returns-5 c =
-    let n = c.before.before in
-    let e = n.before.before in
-    let b = e.before.before in
-    let d = at_first b.before.before.before in
-    no_third _ _ _ _ _ (first d.before.before) d.if1.left _ _ (second b) e.if2.false (sym n.number-up-to3.ensures ∙ c.enum-told3.given.1)
+    no_third _ _ _ _ _ (first c.before.before.before.before.before.before.before.before) c.if-text-length.false _ _ (second c.before.before.before.before) c.if-rest-more.false (sym c.number_up_to-3.ensures ∙ c.in_default-number_up_to-2.is)
 
-add-t23 : tie.Need-overflow-add-t23
+add-t23 : tie.Need-overflow_add-result-4
 add-t23 c =
-    let t = c.before in
-    let b = second-of t in
-    let a = first_of b in
-    let start = a.before.before.before.before in
-    let r = past (text a) a.a.given.0.1.0 in
-    let u = past r b.b.given.0.1.0 in
+    let r = past (text c.before.before.before.before.before.before.before.before) c.in-Read.length in
+    let u = past r c.in-Read-number_up_to.more in
     omega (
       arith,
-      (up_to _ _ _ _ _ _ (third t)).1,
+      (up_to _ _ _ _ _ _ (third c)).1,
       before_fits line_end u,
-      from_length r (b.b.given.0.1.0 + 1),
-      from_length (text a) (a.a.given.0.1.0 + 1),
-      t.before.before.before.before.if2.false,
-      b.before.before.before.before.if1.left,
-      start.good,
+      from_length r (c.in-Read-number_up_to.more + 1),
+      from_length (text c.before.before.before.before.before.before.before.before) (c.in-Read.length + 1),
+      c.if-rest-more.false,
+      c.if-text-length.false,
+      c.well_formed,
     )
 
-returns-6 : tie.Need-returns-6
+returns-6 : tie.Need-returns
 returns-6 c =
-    let t = c.before in
-    let n = t.before.before in
-    let e = n.before.before in
-    let b = e.before.before in
-    let d = at_first b.before.before.before in
-    all_three _ _ _ _ _ (first d.before.before) d.if1.left _ _ (second b) e.if2.false _ _ (third t)
+    all_three _ _ _ _ _ (first c.before.before.before.before.before.before.before.before) c.if-text-length.false _ _ (second c.before.before.before.before) c.if-rest-more.false _ _ (third c)
 
 pub three_numbers_spec : {M : Type 1} → statement M
 three_numbers_spec =

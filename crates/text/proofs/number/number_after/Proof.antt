@@ -11,27 +11,27 @@ use borrow.Author.Rules.{rules}
 use Rattle.text.proofs.number.number_after.Statement.{statement}
 use Rattle.text.proofs.number.number_after.Tie as tie
 
-returns : tie.Need-returns
+returns : tie.Need-returns-then-not-begins_with
 unfolding number_after
-returns c = rw (was_false c.before.begins-with.ensures c.if1.true)
+returns c = rw (was_false c.begins_with.ensures c.if-not-begins_with.true-raw)
 
 -- the line begins with the word
 begins :
-    (c : tie.Else1) → let d = c.before.before.before.before in begins_with d.args.word.now d.args.line.now ≡ true
-begins c = was_true c.before.begins-with.ensures c.if1.false
+    (c : tie.Else-not-begins_with) → begins_with c.args.word.now c.args.line.now ≡ true
+begins c = was_true c.begins_with.ensures c.if-not-begins_with.false-raw
 
-sub-number-of : tie.Need-overflow-sub-number-of
+sub-number-of : tie.Need-slice_bounds-number_of-count
 sub-number-of c = not_longer _ _ (begins c)
 
-part-number-of-start : tie.Need-slice-bounds-number-of-start
+part-number-of-start : tie.Need-slice_bounds-number_of-start
 part-number-of-start c = not_longer _ _ (begins c)
 
-returns-2 : tie.Need-returns-2
+returns-2 : tie.Need-returns
 unfolding number_after
 returns-2 c =
-    let a = c.before.before.before.before.before.before.args in
+    let a = c.args in
     rw (begins c.before.before)
-    (c.number_of_lem.ensures ∙ ap (number_of a.digits a.largest) (from_drop a.line.now (length a.word.now)))
+    (c.number_of.ensures ∙ ap (number_of a.digits a.largest) (from_drop a.line.now (length a.word.now)))
 
 pub number_after_spec : {M : Type 1} → statement M
 number_after_spec =

@@ -5,14 +5,14 @@ use borrow.Author.Rules.{rules}
 use Rattle.text.proofs.number.number_of.Statement.{statement}
 use Rattle.text.proofs.number.number_of.Tie as tie
 
-returns : tie.Need-returns
-returns c = broken_field _ _ _ (sym c.before.before.number-up-to.ensures ∙ c.enum_told.given.1)
+returns : tie.Need-returns-in_default
+returns c = broken_field _ _ _ (sym c.number_up_to.ensures ∙ c.in_default.is)
 
-returns-2 : tie.Need-returns-2
-returns-2 c = let n = c.before.before in longer_field _ _ _ _ _ (sym n.before.before.number-up-to.ensures ∙ n.number.given.1) c.if1.true
+returns-2 : tie.Need-returns-then-length-field
+returns-2 c = longer_field _ _ _ _ _ (sym c.number_up_to.ensures ∙ c.in-Read.is) c.if-length-field.true
 
-returns-3 : tie.Need-returns-3
-returns-3 c = let n = c.before.before in whole_field _ _ _ _ _ (sym n.before.before.number-up-to.ensures ∙ n.number.given.1) c.if1.false
+returns-3 : tie.Need-returns
+returns-3 c = whole_field _ _ _ _ _ (sym c.number_up_to.ensures ∙ c.in-Read.is) c.if-length-field.false
 
 pub number_of_spec : {M : Type 1} → statement M
 number_of_spec =

@@ -5,7 +5,7 @@ use native.Mathlib.Omega.{arith}
 use mathlib.Core.Path.{◌≡◌, ◌∙◌}
 use mathlib.Core.Bool.{true, false}
 use mathlib.Core.List.{List}
-use mathlib.Core.Logic.{⊎_elim, inl, inr}
+use mathlib.Core.Logic.{inl, inr}
 use borrow.Author.Rules.{rules}
 use lib.ListN.{length, get_or, take}
 use lib.Seq.{get_or-take}
@@ -17,134 +17,118 @@ use Rattle.text.proofs.Scan.{Passed, passed_none, passed_more, Other, at_other, 
 use Rattle.text.proofs.NumberLaws.{digit}
 use Rattle.text.proofs.NumberScan.{Scanned, scanned_none, empty, long, leading, one_digit, other_digit, no_digit, too_large, scanned_more, complete}
 use Rattle.text.proofs.number.number_up_to.Statement.{statement}
+use Rattle.text.proofs.number.number_up_to.Lts.{else-loop-i-test, then-loop-i-test+then-byte-end}
 use Rattle.text.proofs.number.number_up_to.Tie as tie
 
-abbrev invariant-loop : tie.invariant-loop
+abbrev invariant-loop : tie.invariant-loop-i
 invariant-loop text end digits largest number₀ i₀ number i = Passed end text i × Scanned largest (before end text) number i
 
-abbrev decreases-loop : tie.decreases-loop
+abbrev decreases-loop : tie.decreases-loop-i
 decreases-loop text end digits largest number₀ i₀ number i = length text - i
 
 -- a byte that is not the end is one of those before it
 other :
-    (c : tie.Else1 invariant-loop decreases-loop)
-    → let l = c.before.before.before in
-    let a = l.before.before.args in
-    Other a.end a.text.now l.loop.i
-other c = at_other _ _ _ c.before.before.before.loop.invariant.0 c.before.before.loop-test.true c.if1.false
+    (c : tie.Else-byte-end invariant-loop decreases-loop)
+    → let a = c.args in
+    Other a.end a.text.now c.loop-i.i
+other c = at_other _ _ _ c.loop-i.invariant.0 c.loop-i-test.true c.if-byte-end.false
 
 -- where the next digit is taken
 next-digit :
-    (c : tie.Else2 invariant-loop decreases-loop)
-    → let l = c.before.before.before.before.before in
-    is_digit (get_or l.before.before.args.text.now l.loop.i 0) ≡ true
-next-digit c = was_true c.before.is_digit.ensures c.if2.false
+    (c : tie.Else-not-is_digit invariant-loop decreases-loop)
+    → is_digit (get_or c.args.text.now c.loop-i.i 0) ≡ true
+next-digit c = was_true c.is_digit.ensures c.if-not-is_digit.false-raw
 
 small :
-    (c : tie.Else2 invariant-loop decreases-loop)
-    → let l = c.before.before.before.before.before in l.loop.number ≤ l.before.before.args.largest
-small c = c.before.before.before.before.before.loop.invariant.1.small
+    (c : tie.Else-not-is_digit invariant-loop decreases-loop)
+    → c.loop-i.number ≤ c.args.largest
+small c = c.loop-i.invariant.1.small
 
 -- where the loop is left, the bytes so far are those before the end
-abbrev field : tie.Left-loop invariant-loop decreases-loop → List ℕ
-field c = let a = c.before.before.before.args in before a.end a.text.now
+abbrev field : tie.Left-loop-i invariant-loop decreases-loop → List ℕ
+field c = let a = c.args in before a.end a.text.now
 
 front :
-    (c : tie.Left-loop invariant-loop decreases-loop)
-    → (field c ≡ take c.before.loop.i c.before.before.before.args.text.now) × (length (field c) ≡ c.before.loop.i)
+    (c : tie.Left-loop-i invariant-loop decreases-loop)
+    → (field c ≡ take c.loop-i.i c.args.text.now) × (length (field c) ≡ c.loop-i.i)
 front c =
-    stopped _ _ _ c.before.loop.invariant.0
-    (⊎_elim (λ w. inl w.left) (λ w. inr (w.0.taken, w.2.taken)) c.loop-test.branch)
+    stopped _ _ _ c.loop-i.invariant.0
+    (elim c.loop-i-test.branch [ else-loop-i-test w ↦ inl w.loop-i-test.false | then-loop-i-test+then-byte-end w ↦ inr (w.loop-i-test.true, w.if-byte-end.true) ])
 
-loop-holds : tie.Need-loop-init invariant-loop decreases-loop
+loop-holds : tie.Need-loop-i-init invariant-loop decreases-loop
 loop-holds c = (passed_none _ _, scanned_none _ _)
 
-returns : tie.Need-returns invariant-loop decreases-loop
+returns : tie.Need-returns-then-not-is_digit invariant-loop decreases-loop
 unfolding number_up_to
 returns c =
-    let e = c.before.before in
-    let l = e.before.before.before in
-    rw (no_digit _ _ _ _ _ l.loop.invariant.1 (other e).inside (rw (other e).same (was_false c.before.is_digit.ensures c.if2.true)))
+    rw (no_digit _ _ _ _ _ c.loop-i.invariant.1 (other c.before.before).inside (rw (other c.before.before).same (was_false c.is_digit.ensures c.if-not-is_digit.true-raw)))
 
-mul-more : tie.Need-overflow-mul-more invariant-loop decreases-loop
+mul-more : tie.Need-overflow_mul-more invariant-loop decreases-loop
 mul-more c = omega (arith, small c)
 
-sub_more : tie.Need-overflow-sub-more invariant-loop decreases-loop
+sub_more : tie.Need-overflow_sub-more invariant-loop decreases-loop
 sub_more c = (digit _ (next-digit c)).low
 
-cast-more-2 : tie.Need-overflow-cast-more-2 invariant-loop decreases-loop
+cast-more-2 : tie.Need-overflow_cast-more-in-loop-i invariant-loop decreases-loop
 cast-more-2 c = omega (arith, digit _ (next-digit c))
 
-add-more : tie.Need-overflow-add-more invariant-loop decreases-loop
+add-more : tie.Need-overflow_add-more invariant-loop decreases-loop
 add-more c = omega (arith, small c, digit _ (next-digit c))
 
-returns-2 : tie.Need-returns-2 invariant-loop decreases-loop
+returns-2 : tie.Need-returns-then-largest-more invariant-loop decreases-loop
 unfolding number_up_to
 returns-2 c =
-    let e = c.before.before.before in
-    let l = e.before.before.before in
-    rw (too_large _ _ _ _ _ l.loop.invariant.1 (other e).inside (rw (other e).same c.if3.true))
+    rw (too_large _ _ _ _ _ c.loop-i.invariant.1 (other c.before.before.before).inside (rw (other c.before.before.before).same c.if-largest-more.true))
 
-loop-again : tie.Need-loop-preserved invariant-loop decreases-loop
+loop-again : tie.Need-loop-i-preserved invariant-loop decreases-loop
 loop-again c =
-    let d = c.before in
-    let e = d.before.before in
-    let l = e.before.before.before in
-    (passed_more _ _ _ l.loop.invariant.0 e.before.before.loop-test.true e.if1.false, rw (← (other e).same) (scanned_more _ _ _ _ l.loop.invariant.1 (other e).inside (rw (other e).same (next-digit d)) (rw (other e).same c.if3.false)))
+    (passed_more _ _ _ c.loop-i.invariant.0 c.loop-i-test.true c.if-byte-end.false, rw (← (other c.before.before.before).same) (scanned_more _ _ _ _ c.loop-i.invariant.1 (other c.before.before.before).inside (rw (other c.before.before.before).same (next-digit c.before)) (rw (other c.before.before.before).same c.if-largest-more.false)))
 
-returns-3 : tie.Need-returns-3 invariant-loop decreases-loop
+returns-3 : tie.Need-returns-then-i-eq0 invariant-loop decreases-loop
 unfolding number_up_to
-returns-3 c = rw (empty _ _ _ ((front c.before).1 ∙ c.if4.true))
+returns-3 c = rw (empty _ _ _ ((front c.before).1 ∙ c.if-i-eq0.true))
 
-returns-4 : tie.Need-returns-4 invariant-loop decreases-loop
+returns-4 : tie.Need-returns-then-digits-i invariant-loop decreases-loop
 unfolding number_up_to
 returns-4 c =
-    let l = c.before.before in
-    let a = l.before.before.before.args in
-    rw (long a.digits a.largest (field l) (omega (arith, (front l).1, c.if5.true)))
+    let a = c.args in
+    rw (long a.digits a.largest (field c.before.before) (omega (arith, (front c.before.before).1, c.if-digits-i.true)))
 
-shared-slice-read-if6 : tie.Need-shared-slice-read-if6 invariant-loop decreases-loop
-shared-slice-read-if6 c = let e = c.before.before in omega (arith, e.if4.false, e.before.before.loop.invariant.0.within)
+shared-slice-read-if6 : tie.Need-bounds-text-0 invariant-loop decreases-loop
+shared-slice-read-if6 c = omega (arith, c.if-i-eq0.false, c.loop-i.invariant.0.within)
 
 -- the first byte of the number is that of the text
-first_byte : (c : tie.Else5 invariant-loop decreases-loop) → get_or (field c.before.before) 0 0 ≡ get_or c.before.before.before.before.before.args.text.now 0 0
+first_byte : (c : tie.Else-digits-i invariant-loop decreases-loop) → get_or (field c.before.before) 0 0 ≡ get_or c.args.text.now 0 0
 first_byte c =
-    let l = c.before.before in
-    rw (front l).0 (get_or-take l.before.loop.i l.before.before.before.args.text.now 0 0 (omega (arith, c.before.if4.false)))
+    rw (front c.before.before).0 (get_or-take c.loop-i.i c.args.text.now 0 0 (omega (arith, c.if-i-eq0.false)))
 
 -- where it is no leading zero, the number is complete
 whole :
-    (c : tie.Else5 invariant-loop decreases-loop)
-    → let l = c.before.before.before in
-    let a = l.before.before.args in
-    leading_zero (field c.before.before) ≡ false → Read l.loop.number l.loop.i ≡ number_up_to a.digits a.largest a.end a.text.now
+    (c : tie.Else-digits-i invariant-loop decreases-loop)
+    → let a = c.args in
+    leading_zero (field c.before.before) ≡ false → Read c.loop-i.number c.loop-i.i ≡ number_up_to a.digits a.largest a.end a.text.now
 unfolding number_up_to
 whole c z =
-    let l = c.before.before in
-    let a = l.before.before.before.args in
-    let e = (front l).1 in
+    let a = c.args in
+    let e = (front c.before.before).1 in
     let n =
-    complete a.digits a.largest (field l) _ _ l.before.loop.invariant.1 (omega (arith, e)) (omega (arith, e, c.before.if4.false))
-    (omega (arith, e, c.if5.false)) z
+    complete a.digits a.largest (field c.before.before) _ _ c.loop-i.invariant.1 (omega (arith, e)) (omega (arith, e, c.if-i-eq0.false))
+    (omega (arith, e, c.if-digits-i.false)) z
     in
     rw (n.is, n.value, e)
 
-returns-5 : tie.Need-returns-5 invariant-loop decreases-loop
+returns-5 : tie.Need-returns-then-i-gt1 invariant-loop decreases-loop
 unfolding number_up_to
 returns-5 c =
-    let e = c.before.before.before in
-    let l = e.before.before in
-    let a = l.before.before.before.args in
-    rw (leading a.digits a.largest (field l) (first_byte e ∙ c.before.if6.true) (omega (arith, (front l).1, c.if7.true)))
+    let a = c.args in
+    rw (leading a.digits a.largest (field c.before.before.before.before.before) (first_byte c.before.before.before ∙ c.if-text-eq48.true) (omega (arith, (front c.before.before.before.before.before).1, c.if-i-gt1.true)))
 
-returns-6 : tie.Need-returns-6 invariant-loop decreases-loop
+returns-6 : tie.Need-returns-else-i-gt1 invariant-loop decreases-loop
 returns-6 c =
-    let e = c.before.before.before in
-    let l = e.before.before in
-    whole e (one_digit (field l) (omega (arith, (front l).1, c.if7.false)))
+    whole c.before.before.before (one_digit (field c.before.before.before.before.before) (omega (arith, (front c.before.before.before.before.before).1, c.if-i-gt1.false)))
 
-returns-7 : tie.Need-returns-7 invariant-loop decreases-loop
-returns-7 c = let e = c.before.before in whole e (other_digit _ (rw (first_byte e) c.if6.false))
+returns-7 : tie.Need-returns-else-text-eq48 invariant-loop decreases-loop
+returns-7 c = whole c.before.before (other_digit _ (rw (first_byte c.before.before) c.if-text-eq48.false))
 
 pub number_up_to_spec : {M : Type 1} → statement M
 number_up_to_spec =

@@ -11,61 +11,57 @@ use Rattle.text.proofs.Putting.{put_none, put_size, put_byte, put_over, put_full
 use Rattle.text.proofs.output.put.Statement.{statement}
 use Rattle.text.proofs.output.put.Tie as tie
 
-abbrev invariant-loop : tie.invariant-loop
+abbrev invariant-loop : tie.invariant-loop-i
 invariant-loop output₀ used text at₀ i₀ output at i = (i ≤ length text) × Put output₀ used (take i text) output at
 
-abbrev decreases-loop : tie.decreases-loop
+abbrev decreases-loop : tie.decreases-loop-i
 decreases-loop output₀ used text at₀ i₀ output at i = length text - i
 
-loop-holds : tie.Need-loop-init invariant-loop decreases-loop
+loop-holds : tie.Need-loop-i-init invariant-loop decreases-loop
 loop-holds c = (omega arith, put_none _ _)
 
 -- the text in two parts, and the array as long as before
-whole : (c : tie.In-loop invariant-loop decreases-loop) →
-    let a = c.before.before.args in
-    take c.before.loop.i a.text.now ++ drop c.before.loop.i a.text.now ≡ a.text.now
-whole c = take-append-drop c.before.loop.i c.before.before.args.text.now
+whole : (c : tie.In-loop-i invariant-loop decreases-loop) →
+    let a = c.args in
+    take c.loop-i.i a.text.now ++ drop c.loop-i.i a.text.now ≡ a.text.now
+whole c = take-append-drop c.loop-i.i c.args.text.now
 
-kept : (c : tie.At-loop invariant-loop decreases-loop) → length c.loop.output ≡ length c.before.args.output.now
-kept c = put_size _ _ _ _ _ c.loop.invariant.1
+kept : (c : tie.At-loop-i invariant-loop decreases-loop) → length c.loop-i.output ≡ length c.args.output.now
+kept c = put_size _ _ _ _ _ c.loop-i.invariant.1
 
-same_length : tie.Need-same-length invariant-loop decreases-loop
+same_length : tie.Need-shape_of-output-then-output-at invariant-loop decreases-loop
 same_length c = kept c.before.before
 
-returns : tie.Need-returns invariant-loop decreases-loop
+returns : tie.Need-returns-then-output-at invariant-loop decreases-loop
 returns c =
-    let l = c.before.before in
-    rw (whole c.before) at (put_full _ _ _ _ _ l.loop.invariant.1 (drop l.loop.i l.before.args.text.now) c.if1.true)
+    rw (whole c.before) at (put_full _ _ _ _ _ c.loop-i.invariant.1 (drop c.loop-i.i c.args.text.now) c.if-output-at.true)
 
-add-result : tie.Need-overflow-add-result invariant-loop decreases-loop
-add-result c = let l = c.before.before.before in omega (arith, kept l, l.before.well-formed)
+add-result : tie.Need-overflow_add-result invariant-loop decreases-loop
+add-result c = omega (arith, kept c.before.before.before, c.well_formed)
 
-same-length-2 : tie.Need-same-length-2 invariant-loop decreases-loop
+same-length-2 : tie.Need-shape_of-output-then-output-at-2 invariant-loop decreases-loop
 same-length-2 c = kept c.before.before.before
 
-returns-2 : tie.Need-returns-2 invariant-loop decreases-loop
+returns-2 : tie.Need-returns-then-output-at-2 invariant-loop decreases-loop
 returns-2 c =
-    let l = c.before.before in
-    let text = l.before.before.args.text.now in
-    rw (whole l) at
-    (put_over _ _ _ _ _ l.before.loop.invariant.1 (drop l.before.loop.i text) (omega (arith, length-drop l.before.loop.i text)) c.if2.true)
+    let text = c.args.text.now in
+    rw (whole c.before.before) at
+    (put_over _ _ _ _ _ c.loop-i.invariant.1 (drop c.loop-i.i text) (omega (arith, length-drop c.loop-i.i text)) c.if-output-at-2.true)
 
-add_at : tie.Need-overflow-add-at invariant-loop decreases-loop
-add_at c = let l = c.before.before.before.before in omega (arith, kept l, l.before.well-formed)
+add_at : tie.Need-overflow_add-at invariant-loop decreases-loop
+add_at c = omega (arith, kept c.before.before.before.before, c.well_formed)
 
-loop-again : tie.Need-loop-preserved invariant-loop decreases-loop
+loop-again : tie.Need-loop-i-preserved invariant-loop decreases-loop
 loop-again c =
-    let l = c.before.before.before in
-    let text = l.before.before.args.text.now in
-    (omega arith, rw (add-one l.before.loop.i, take-suc text l.before.loop.i 0 (omega arith)) (put_byte _ _ _ _ _ l.before.loop.invariant.1 _ (omega arith)))
+    let text = c.args.text.now in
+    (omega arith, rw (add-one c.loop-i.i, take-suc text c.loop-i.i 0 (omega arith)) (put_byte _ _ _ _ _ c.loop-i.invariant.1 _ (omega arith)))
 
-same-length-3 : tie.Need-same-length-3 invariant-loop decreases-loop
+same-length-3 : tie.Need-shape_of-output invariant-loop decreases-loop
 same-length-3 c = kept c.before
 
-returns-3 : tie.Need-returns-3 invariant-loop decreases-loop
+returns-3 : tie.Need-returns invariant-loop decreases-loop
 returns-3 c =
-    let l = c.before in
-    rw (take_all l.loop.i l.before.args.text.now (omega arith)) at l.loop.invariant.1
+    rw (take_all c.loop-i.i c.args.text.now (omega arith)) at c.loop-i.invariant.1
 
 pub put_spec : {M : Type 1} → statement M
 put_spec =

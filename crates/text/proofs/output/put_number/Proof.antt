@@ -8,13 +8,12 @@ use Rattle.text.proofs.output.put_number.Statement.{statement}
 use Rattle.text.proofs.output.put_number.Tie as tie
 
 -- the digits are the number's text
-text : (c : tie.After-decimal) → take c.decimal.result c.decimal.new.1.0 ≡ decimal_text c.before.before.before.args.number
-text c = c.decimal.ensures.1.1 ∙ same_text _ _ (search rules) c.decimal.ensures.1.0
+text : (c : tie.After-decimal-n) → take c.decimal-n.result c.decimal-n.new.out ≡ decimal_text c.args.number
+text c = c.decimal-n.ensures.1.1.0 ∙ same_text _ _ (search rules) c.decimal-n.ensures.1.0
 
 returns : tie.Need-returns
 returns c =
-    let p = c.before.before in
-    rw (text p.before.before.before) at p.put.ensures
+    rw (text c.before.before.before.before.before) at c.put.ensures
 
 pub put_number_spec : {M : Type 1} → statement M
 put_number_spec =

@@ -11,52 +11,38 @@ use Rattle.text.proofs.NumbersLine.{first_number, next_number, no_number}
 use Rattle.text.proofs.output.put_numbers.Statement.{statement}
 use Rattle.text.proofs.output.put_numbers.Tie as tie
 
-abbrev invariant-loop : tie.invariant-loop
-invariant-loop output₀ used numbers at₀ i₀ t7 t8 output at i =
-    Partly output₀ at₀ (further_numbers (drop 1 numbers)) output at (further_numbers (drop i numbers)) × (length t7 ≡ 1) × (length t8 ≡ 1)
+abbrev invariant-loop : tie.invariant-loop-i
+invariant-loop output₀ used numbers at₀ i₀ output at i =
+    Partly output₀ at₀ (further_numbers (drop 1 numbers)) output at (further_numbers (drop i numbers))
 
-abbrev decreases-loop : tie.decreases-loop
-decreases-loop output₀ used numbers at₀ i₀ t7 t8 output at i = length numbers - i
+abbrev decreases-loop : tie.decreases-loop-i
+decreases-loop output₀ used numbers at₀ i₀ output at i = length numbers - i
 
-returns : tie.Need-returns invariant-loop decreases-loop
+returns : tie.Need-returns-then-numbers-eq0 invariant-loop decreases-loop
 unfolding numbers_line
 returns c =
-    let t = c.before.before.before.before.before in
-    rw (empty t.before.before.before.args.numbers.now (omega (arith, t.if1.true))) c.before.before.put.ensures
+    rw (empty c.args.numbers.now (omega (arith, c.if-numbers-eq0.true))) c.put.ensures
 
-loop-holds : tie.Need-loop-init invariant-loop decreases-loop
-loop-holds c = (partly_none _ _ _, search rules, search rules)
+loop-holds : tie.Need-loop-i-init invariant-loop decreases-loop
+loop-holds c = partly_none _ _ _
 
-loop-again : tie.Need-loop-preserved invariant-loop decreases-loop
+loop-again : tie.Need-loop-i-preserved invariant-loop decreases-loop
 loop-again c =
-    let n = c.before.before in
-    let p = n.before.before.before.before.before in
-    let l = p.before.before.before in
-    let a = l.before.before.before.before.before.before.before.before.before.before.args in (
-      partly_more _ _ _ _ _ _ _
-          (partly_more _ _ _ _ _ _ _ (rw (next_number a.numbers.now l.before.loop.i l.loop-test.true) at l.before.loop.invariant.0) _ _ p.put2.ensures) _ _ n.put-number2.ensures,
-      search rules,
-      search rules,
-    )
+    let a = c.args in
+    partly_more _ _ _ _ _ _ _
+    (partly_more _ _ _ _ _ _ _ (rw (next_number a.numbers.now c.loop-i.i c.loop-i-test.true) at c.loop-i.invariant) _ _ c.put-at.ensures) _ _ c.put_number-at-in-loop-i.ensures
 
-same-length-2 : tie.Need-same-length-2 invariant-loop decreases-loop
+same-length-2 : tie.Need-shape_of-output invariant-loop decreases-loop
 same-length-2 c =
-    let p = c.before.before in
-    let l = p.before.before.before.before in
-    put_size _ _ _ _ _ p.put3.ensures ∙ put_size _ _ _ _ _ l.loop.invariant.0.put
-    ∙ put_size _ _ _ _ _ l.before.before.before.put-number.ensures
+    put_size _ _ _ _ _ c.put-2.ensures ∙ put_size _ _ _ _ _ c.loop-i.invariant.put
+    ∙ put_size _ _ _ _ _ c.put_number-at.ensures
 
-returns-2 : tie.Need-returns-2 invariant-loop decreases-loop
+returns-2 : tie.Need-returns invariant-loop decreases-loop
 returns-2 c =
-    let p = c.before.before in
-    let d = p.before.before.before in
-    let l = d.before in
-    let n = l.before.before.before in
-    let e = n.before.before.before in
-    let a = e.before.before.before.args in
+    let a = c.args in
     rw (first_number a.numbers.now (omega arith))
-    (put_then _ _ _ _ _ n.put-number.ensures _ _ _
-    (partly_last _ _ _ _ _ _ (rw (no_number a.numbers.now l.loop.i d.loop-test.false) at l.loop.invariant.0) _ _ p.put3.ensures))
+    (put_then _ _ _ _ _ c.put_number-at.ensures _ _ _
+    (partly_last _ _ _ _ _ _ (rw (no_number a.numbers.now c.loop-i.i c.loop-i-test.false) at c.loop-i.invariant) _ _ c.put-2.ensures))
 
 pub put_numbers_spec : {M : Type 1} → statement M
 put_numbers_spec =
@@ -65,21 +51,18 @@ put_numbers_spec =
     invariant-loop
     decreases-loop
     (λ c. search rules)
-    (λ c κs. search rules)
     (λ c. search rules)
     returns
-    (λ c. omega arith)
-    (λ c κs. search rules)
+    (λ c. search rules)
+    (λ c. search rules)
     loop-holds
     (λ c. search rules)
-    (λ c κs. search rules)
     (λ c. search rules)
-    (λ c. omega arith)
-    (λ c κs. search rules)
-    (λ c. omega arith)
-    (λ c. omega arith)
+    (λ c. search rules)
+    (λ c. search rules)
+    (λ c. search rules)
+    (λ c. search rules)
     loop-again
     (λ c. search rules)
-    (λ c κs. search rules)
     same-length-2
     returns-2)

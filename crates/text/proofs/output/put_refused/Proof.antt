@@ -8,16 +8,14 @@ use Rattle.text.proofs.output.put_refused.Tie as tie
 returns : tie.Need-returns
 unfolding refused_line
 returns c =
-    let n = c.before.before in
-    put_then _ _ _ _ _ n.before.before.before.before.before.put.ensures _ _ _ n.put-numbers.ensures
+    put_then _ _ _ _ _ c.put-at.ensures _ _ _ c.put_numbers.ensures
 
 pub put_refused_spec : {M : Type 1} → statement M
 put_refused_spec =
     tie.close
     (tie.spec
     (λ c. search rules)
-    (λ c κs. search rules)
     (λ c. search rules)
-    (λ c κs. search rules)
+    (λ c. search rules)
     (λ c. search rules)
     returns)
