@@ -16,7 +16,7 @@ use tasks::outcome::Outcome;
 use tasks::table::{PerTask, Table};
 
 // Whether the table is admitted, or the refusal's number and place.
-#[derive(Drop)]
+#[derive(Clone, Copy)]
 pub enum Admission {
     Judged { admitted: bool },
     Refused { number: u32, place: u32 },

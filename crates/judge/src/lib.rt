@@ -1,4 +1,6 @@
 // The window test of a table: document 01, "The window test". The slack test stands in slack.rt, and the admission by it in admission.rt.
+#![tactic(auto)]
+
 use crate::urgent::count_urgent;
 use tasks::check::check;
 use tasks::outcome::Outcome;
@@ -16,7 +18,7 @@ ghost use Rattle.std.specs.Prelude.{◌≡◌};
 ghost use Rattle.judge.specs.Judge.{values_of, judged};
 
 // COUNT and whether the table is admitted, or the refusal's number and place.
-#[derive(Drop)]
+#[derive(Clone, Copy)]
 pub enum Verdict {
     Judged { count: u32, admitted: bool },
     Refused { number: u32, place: u32 },

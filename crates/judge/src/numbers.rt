@@ -8,7 +8,7 @@ use tasks::table::PerTask;
 use tasks::task::Task;
 
 // T, C and D of each task, by the task's index.
-#[derive(Drop)]
+#[derive(Clone, Copy)]
 pub(crate) struct Numbers {
     pub(crate) periods: PerTask,
     pub(crate) budgets: PerTask,

@@ -18,7 +18,7 @@ use tasks::table::Table;
 use tasks::task::Task;
 
 // The rounds made and whether the table is admitted, or the refusal's number and place.
-#[derive(Drop)]
+#[derive(Clone, Copy)]
 pub enum SlackVerdict {
     Judged { rounds: u32, admitted: bool },
     Refused { number: u32, place: u32 },
@@ -72,7 +72,7 @@ impl SlackVerdict {
 }
 
 // What the rounds of a table come to.
-#[derive(Drop)]
+#[derive(Clone, Copy)]
 struct Slack {
     rounds: u32,
     admitted: bool,

@@ -45,7 +45,7 @@ task_passes r place =
     let both = not-false _ fits in
     let dearest-fits = in_range (corner_task Dearest r) in
     let corner : (corner : Corner) → in_range (corner_task corner r) ≡ true
-    = λ c. elim c [ Dearest ↦ and_left dearest-fits _ both | Cheapest ↦ and_right dearest-fits _ both ] in
+    = λ c. elim c as (λ (k : Corner). in_range (corner_task k r) ≡ true) [ Dearest ↦ and_left dearest-fits _ both | Cheapest ↦ and_right dearest-fits _ both ] in
     record {
       period_in_order = leb-true _ _ (and_left (leb r.period.least r.period.most) _ in_order_lem);
       budget_in_order = leb-true _ _ (and_right (leb r.period.least r.period.most) _ in_order_lem);

@@ -1,4 +1,6 @@
 // Quotes over ranges: document 02, change 9.
+#![tactic(auto)]
+
 use crate::check::check_ranges;
 use crate::corner::Corner;
 use crate::table::RangedTable;
@@ -15,7 +17,7 @@ ghost use Rattle.ranges.specs.Quote.{quote_values_of, quoted};
 ghost use Rattle.ranges.specs.Promise.{Says};
 
 // For which tables within the ranges the window test admits the table, or the refusal's number and place.
-#[derive(Drop)]
+#[derive(Clone, Copy)]
 pub enum Quote {
     All,
     Some,

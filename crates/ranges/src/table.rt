@@ -8,7 +8,7 @@ use tasks::limits::MAX_TASKS;
 use tasks::table::Table;
 
 // The first `count` entries are the table's tasks; the entries after them are no part of it.
-#[derive(Drop)]
+#[derive(Clone, Copy)]
 pub struct RangedTable {
     pub count: usize,
     pub tasks: [RangedTask; MAX_TASKS],

@@ -9,14 +9,14 @@ use tasks::refusals::{LEAST_ABOVE_MOST, TASK_OUT_OF_RANGE};
 use tasks::task::Task;
 
 // The numbers from the least to the most, both among them.
-#[derive(Drop)]
+#[derive(Clone, Copy)]
 pub struct Range {
     pub least: u32,
     pub most: u32,
 }
 
 // A task's numbers, in slots: the period and the budget within ranges, and the deadline, which is fixed.
-#[derive(Drop)]
+#[derive(Clone, Copy)]
 pub struct RangedTask {
     pub period: Range,
     pub budget: Range,

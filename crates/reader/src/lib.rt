@@ -1,4 +1,6 @@
 // A table from text: document 01, "The table as text".
+#![tactic(auto)]
+
 use crate::numbers::Counted;
 use tasks::limits::MAX_TASKS;
 use tasks::outcome::Outcome;
@@ -14,7 +16,7 @@ ghost use Rattle.tasks.specs.Numbers.{table_from};
 ghost use Rattle.reader.specs.Reading.{reading, refused};
 
 // What reading a text gives: the table and Done, or a table of zeros and the refusal.
-#[derive(Drop)]
+#[derive(Clone, Copy)]
 pub struct Reading {
     pub table: Table,
     pub outcome: Outcome,

@@ -9,7 +9,7 @@ use text::bytes;
 const NO_COLUMN: usize = 3;
 
 // Where each value stands in a line of values, from 0.
-#[derive(Drop)]
+#[derive(Clone, Copy)]
 pub struct Columns {
     pub period: usize,
     pub budget: usize,
@@ -32,7 +32,7 @@ impl Columns {
 }
 
 // A names line with its byte 10 is `length` bytes long.
-#[derive(Drop)]
+#[derive(Clone, Copy)]
 pub enum NamesLine {
     Read { columns: Columns, length: usize },
     Broken,

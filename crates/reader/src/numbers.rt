@@ -17,7 +17,7 @@ use tasks::refusals::{
 use tasks::table::PerTask;
 
 // How many tasks the table has, or the refusal's number and place.
-#[derive(Drop)]
+#[derive(Clone, Copy)]
 pub enum Counted {
     Read { count: usize },
     Refused { number: u32, place: u32 },

@@ -8,24 +8,20 @@ use borrow.Author.Rules.{rules}
 use Rattle.judge.proofs.judge.Statement.{statement}
 use Rattle.judge.proofs.judge.Tie as tie
 
-returns : tie.Need-returns
+returns : tie.Need-returns-in-Refused
 unfolding judged judged_after values_of
 returns c =
-    let d = c.before.before.before in
-    rw (← d.check.ensures, c.before.outcome.given.1)
+    rw (← c.check-outcome.ensures, c.in-Refused.is)
 
-count-urgent-requires : tie.Need-count-urgent-requires
+count-urgent-requires : tie.Need-count_urgent-count-requires
 count-urgent-requires c κs =
-    let d = c.before.before.before in
-    let p = passes _ _ (sym d.check.ensures ∙ c.before.enum_told.given.1) in
+    let p = passes _ _ (sym c.check-outcome.ensures ∙ c.in_default.is) in
     ((p.count_fits, p.cores_fit), p.tasks_fit)
 
-returns-2 : tie.Need-returns-2
+returns-2 : tie.Need-returns
 unfolding judged judged_after values_of tasks_of admitted
 returns-2 c =
-    let e = c.before.before in
-    let d = e.before.before in
-    rw (← d.check.ensures, e.enum_told.given.1, c.count-urgent.ensures)
+    rw (← c.check-outcome.ensures, c.in_default.is, c.count_urgent-count.ensures)
 
 pub judge_spec : {M : Type 1} → statement M
 judge_spec =

@@ -32,46 +32,38 @@ verdict-at : {t corner : Table} (m : ℕ) (v : Verdict) {admits is : Bool} →
 verdict-at m v at_corner judges asked told =
     sym (ap (λ (values : Values). values.admits) judges ∙ ap (λ (table : Table). (judged table m).admits) at_corner) ∙ sym asked ∙ told
 
-returns : tie.Need-returns
+returns : tie.Need-returns-in-Refused
 returns c =
-    let d = c.before in
-    answered _ _ _ (refused_is_lem _ _ _ _ (sym d.before.before.check-ranges.ensures ∙ d.outcome.given.1))
+    answered _ _ _ (refused_is_lem _ _ _ _ (sym c.check_ranges-outcome.ensures ∙ c.in-Refused.is))
 
 -- past the refusals
-passed : (c : tie.After-enum-told) → let a = c.before.before.before.args in ranges_checked a.table a.cores ≡ Done
-passed c = sym c.before.before.check-ranges.ensures ∙ c.enum_told.given.1
+passed : (c : tie.In_default) → let a = c.args in ranges_checked a.table a.cores ≡ Done
+passed c = sym c.check_ranges-outcome.ensures ∙ c.in_default.is
 
-returns-2 : tie.Need-returns-2
+returns-2 : tie.Need-returns-then-admits
 returns-2 c =
-    let d = c.before in
-    let j = d.before in
-    answered _ _ _ (all_is _ _ (passed j.before.before) (verdict-at _ _ j.before.at.ensures j.judge.ensures d.admits.ensures c.if1.taken))
+    answered _ _ _ (all_is _ _ (passed c.before.before.before.before) (verdict-at _ _ c.at.ensures c.judge-dearest.ensures c.admits.ensures c.if-admits.true))
 
 -- the verdict at the dearest corner, where the cheapest is judged too
-at_dearest : (c : tie.After-at2) → let a = c.before.before.before.before.before.before.before.before.args in (judged (corner_table Dearest a.table) a.cores).admits ≡ false
+at_dearest : (c : tie.After-at-2) → let a = c.args in (judged (corner_table Dearest a.table) a.cores).admits ≡ false
 at_dearest c =
-    let d = c.before.before in
-    let j = d.before in
-    verdict-at _ _ j.before.at.ensures j.judge.ensures d.admits.ensures c.before.if1.left
+    verdict-at _ _ c.at.ensures c.judge-dearest.ensures c.admits.ensures c.if-admits.false
 
-both : {any : Bool} (c : tie.After-admits2) → c.admits2.result ≡ any →
-    let k = c.before.before in
-    let a = k.before.before.before.before.before.before.before.before.args in
+both : {any : Bool} (c : tie.After-admits-2) → c.admits-2.result ≡ any →
+    let a = c.args in
     Given a.table a.cores false any
 both {any} c told =
-    let j = c.before in
-    let k = j.before in
     record {
-      checks = passed k.before.before.before.before.before;
-      at_dearest = at_dearest k;
-      at_cheapest = verdict-at _ _ k.at2.ensures j.judge2.ensures c.admits2.ensures told;
+      checks = passed c.before.before.before.before.before.before.before;
+      at_dearest = at_dearest c.before.before;
+      at_cheapest = verdict-at _ _ c.at-2.ensures c.judge-cheapest.ensures c.admits-2.ensures told;
     }
 
-returns-3 : tie.Need-returns-3
-returns-3 c = answered _ _ _ (some_is _ _ (both c.before c.if2.taken))
+returns-3 : tie.Need-returns-then-admits-2
+returns-3 c = answered _ _ _ (some_is _ _ (both c.before c.if-admits-2.true))
 
-returns-4 : tie.Need-returns-4
-returns-4 c = answered _ _ _ (none_is _ _ (both c.before c.if2.left))
+returns-4 : tie.Need-returns
+returns-4 c = answered _ _ _ (none_is _ _ (both c.before c.if-admits-2.false))
 
 pub judge_ranges_spec : {M : Type 1} → statement M
 judge_ranges_spec =

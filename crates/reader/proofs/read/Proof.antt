@@ -7,15 +7,13 @@ use Rattle.reader.proofs.NumbersRead.{table_is, refusal_is}
 use Rattle.reader.proofs.read.Statement.{statement}
 use Rattle.reader.proofs.read.Tie as tie
 
-returns : tie.Need-returns
+returns : tie.Need-returns-in-Read
 returns c =
-    let n = c.before.before.before.before.before in
-    table_is _ _ _ _ _ _ _ n.count.given.1 c.table-from.ensures n.before.before.fill.ensures.0
+    table_is _ _ _ _ _ _ _ c.in-Read.is c.table_from-table.ensures c.fill.ensures.0
 
-returns-2 : tie.Need-returns-2
+returns-2 : tie.Need-returns-in-Refused
 returns-2 c =
-    let n = c.before.before in
-    refusal_is _ _ _ _ _ n.number.given.1 n.before.before.fill.ensures.0 _ c.refused-reading.ensures
+    refusal_is _ _ _ _ _ c.in-Refused.is c.fill.ensures.0 _ c.refused_reading.ensures
 
 fill-requires : tie.Need-fill-requires
 unfolding empty_table zero_task periods_of budgets_of deadlines_of

@@ -6,7 +6,7 @@ use Rattle.reader.proofs.refused_reading.Tie as tie
 
 returns : tie.Need-returns
 unfolding refused
-returns c = rw c.empty.ensures
+returns c = rw c.empty-table.ensures
 
 pub refused_reading_spec : {M : Type 1} → statement M
 refused_reading_spec = tie.close

@@ -27,29 +27,27 @@ all_made periods budgets deadlines =
     (from_entries periods budgets deadlines (made periods budgets deadlines max_tasks) (length_replaced entry zeros max_tasks)
     (λ i h. replaced_at entry zeros zero_task max_tasks i h h))
 
-abbrev invariant-loop : tie.invariant-loop
+abbrev invariant-loop : tie.invariant-loop-i
 invariant-loop count periods budgets deadlines table₀ i₀ table i =
     (i ≤ max_tasks) × (table.count ≡ count) × (table.tasks ≡ made periods budgets deadlines i)
 
-abbrev decreases-loop : tie.decreases-loop
+abbrev decreases-loop : tie.decreases-loop-i
 decreases-loop count periods budgets deadlines table₀ i₀ table i = max_tasks - i
 
-loop-holds : tie.Need-loop-init invariant-loop decreases-loop
+loop-holds : tie.Need-loop-i-init invariant-loop decreases-loop
 unfolding empty_table replaced
-loop-holds c = (omega arith, refl, ap (λ (t : Table). t.tasks) c.empty.ensures)
+loop-holds c = (omega arith, refl, ap (λ (t : Table). t.tasks) c.empty-table.ensures)
 
-loop-again : tie.Need-loop-preserved invariant-loop decreases-loop
+loop-again : tie.Need-loop-i-preserved invariant-loop decreases-loop
 loop-again c =
-    let l = c.before.before.before.before in
-    (omega (arith, c.before.before.before.loop-test.true), l.loop.invariant.1, replaced_more _ _ _ l.loop.invariant.2 refl)
+    (omega (arith, c.loop-i-test.true), c.loop-i.invariant.1, replaced_more _ _ _ c.loop-i.invariant.2 refl)
 
 returns : tie.Need-returns invariant-loop decreases-loop
 unfolding table_from
 returns c =
-    let l = c.before in
-    let a = l.before.before.args in
-    let whole : l.loop.i ≡ max_tasks = omega (arith, l.loop.invariant.0, c.loop-test.false) in
-    rw (← l.loop.invariant.1, ← all_made a.periods.now a.budgets.now a.deadlines.now, ← whole, ← l.loop.invariant.2)
+    let a = c.args in
+    let whole : c.loop-i.i ≡ max_tasks = omega (arith, c.loop-i.invariant.0, c.loop-i-test.false) in
+    rw (← c.loop-i.invariant.1, ← all_made a.periods.now a.budgets.now a.deadlines.now, ← whole, ← c.loop-i.invariant.2)
 
 pub table_from_spec : {M : Type 1} → statement M
 table_from_spec =

@@ -4,13 +4,13 @@ use borrow.Author.Rules.{rules}
 use Rattle.judge.proofs.Verdict.count.Statement.{statement}
 use Rattle.judge.proofs.Verdict.count.Tie as tie
 
-returns : tie.Need-returns
+returns : tie.Need-returns-in-Judged
 unfolding values_of refused_values
-returns c = rw c.before.self.given.1
+returns c = rw c.in-Judged.is
 
-returns-2 : tie.Need-returns-2
+returns-2 : tie.Need-returns-in-Refused
 unfolding values_of refused_values
-returns-2 c = rw c.enum_told.given.1
+returns-2 c = rw c.in-Refused.is
 
 pub count_spec : {M : Type 1} → statement M
 count_spec = tie.close

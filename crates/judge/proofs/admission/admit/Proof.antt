@@ -10,36 +10,32 @@ use borrow.Author.Rules.{rules}
 use Rattle.judge.proofs.admission.admit.Statement.{statement}
 use Rattle.judge.proofs.admission.admit.Tie as tie
 
-returns : tie.Need-returns
+returns : tie.Need-returns-in-Refused
 unfolding admission slack_judged slack_judged_after refused_by_slack admission_values_of
 returns c =
-    let d = c.before.before.before in
-    rw (← d.check.ensures, c.before.outcome.given.1)
+    rw (← c.check-outcome.ensures, c.in-Refused.is)
 
 -- the table can be judged
 checks :
-    (c : tie.After-tasks)
-    → let s = c.before.before.before.before in checked s.args.table s.args.cores ≡ Done
-checks c = sym c.before.before.before.check.ensures ∙ c.before.enum_told.given.1
+    (c : tie.After-tasks-1)
+    → checked c.args.table c.args.cores ≡ Done
+checks c = sym c.check-outcome.ensures ∙ c.in_default.is
 
-passing : (c : tie.After-tasks) → let s = c.before.before.before.before in Passes s.args.table s.args.cores
+passing : (c : tie.After-tasks-1) → Passes c.args.table c.args.cores
 passing c = passes _ _ (checks c)
 
-numbers-of-requires : tie.Need-numbers-of-requires
+numbers-of-requires : tie.Need-numbers_of-numbers-requires
 numbers-of-requires c κs = (passing c).count_fits
 
-admits-requires : tie.Need-admits-requires
+admits-requires : tie.Need-admits-admitted-requires
 admits-requires c κs =
-    let n = c.before.before.before.before in
-    let p = passing n.before in
-    ((p.count_fits, p.cores_some, p.cores_fit), ranges _ _ _ _ _ n.Numbers-of.ensures p.tasks_fit)
+    let p = passing c.before.before.before.before in
+    ((p.count_fits, p.cores_some, p.cores_fit), ranges _ _ _ _ _ c.numbers_of-numbers.ensures p.tasks_fit)
 
-returns-2 : tie.Need-returns-2
+returns-2 : tie.Need-returns
 unfolding admission slack_judged slack_judged_after admission_values_of tasks_of
 returns-2 c =
-    let n = c.before.before.before.before.before in
-    let s = n.before.before.before.before.before in
-    rw (checks n.before, c.admits.ensures, admits_same_as _ _ _ _ _ n.Numbers-of.ensures s.args.cores)
+    rw (checks c.before.before.before.before.before, c.admits-admitted.ensures, admits_same_as _ _ _ _ _ c.numbers_of-numbers.ensures c.args.cores)
 
 pub admit_spec : {M : Type 1} → statement M
 admit_spec =

@@ -11,41 +11,39 @@ use borrow.Author.Rules.{rules}
 use Rattle.judge.proofs.admission.admit_numbers.Statement.{statement}
 use Rattle.judge.proofs.admission.admit_numbers.Tie as tie
 
-returns : tie.Need-returns
+returns : tie.Need-returns-in-Refused
 unfolding admission slack_judged slack_judged_after refused_by_slack admission_values_of
 returns c =
-    let d = c.before.before.before in
-    rw (← d.check-numbers.ensures, c.before.outcome.given.1)
+    rw (← c.check_numbers-outcome.ensures, c.in-Refused.is)
 
 -- the table of the lists can be judged
 checks :
-    (c : tie.After-enum-told)
-    → let a = c.before.before.before.args in
+    (c : tie.In_default)
+    → let a = c.args in
     checked (table_from a.periods.now a.budgets.now a.deadlines.now a.count) a.cores ≡ Done
-checks c = sym c.before.before.check-numbers.ensures ∙ c.enum_told.given.1
+checks c = sym c.check_numbers-outcome.ensures ∙ c.in_default.is
 
 passing :
-    (c : tie.After-enum-told)
-    → let a = c.before.before.before.args in
+    (c : tie.In_default)
+    → let a = c.args in
     Passes (table_from a.periods.now a.budgets.now a.deadlines.now a.count) a.cores
 passing c = passes _ _ (checks c)
 
-admits-requires : tie.Need-admits-requires
+admits-requires : tie.Need-admits-admitted-requires
 unfolding table_from
 admits-requires c κs =
-    let a = c.before.before.before.args in
+    let a = c.args in
     let p = passing c in (
       (p.count_fits, p.cores_some, p.cores_fit),
       ranges _ _ _ _ _ (numbers_listed a.periods.now a.budgets.now a.deadlines.now a.count p.count_fits) p.tasks_fit,
     )
 
-returns-2 : tie.Need-returns-2
+returns-2 : tie.Need-returns
 unfolding admission slack_judged slack_judged_after admission_values_of tasks_of table_from
 returns-2 c =
-    let e = c.before in
-    let a = e.before.before.before.args in
-    let few = (passing e).count_fits in
-    rw (checks e, c.admits.ensures, admits_same_as _ _ _ _ _ (numbers_listed a.periods.now a.budgets.now a.deadlines.now a.count few) a.cores)
+    let a = c.args in
+    let few = (passing c.before).count_fits in
+    rw (checks c.before, c.admits-admitted.ensures, admits_same_as _ _ _ _ _ (numbers_listed a.periods.now a.budgets.now a.deadlines.now a.count few) a.cores)
 
 pub admit_numbers_spec : {M : Type 1} → statement M
 admit_numbers_spec =

@@ -14,21 +14,21 @@ whole-fits c = div-mul-le_self c.args.window c.args.period
 budgets-fit : (c : tie.Start) → (c.args.window / c.args.period) * c.args.budget ≤ c.args.window
 budgets-fit c = omega (arith, whole-fits c, mul-le-mul_left (c.args.window / c.args.period) c.requires.1)
 
-mul_left : tie.Need-overflow-mul-left
+mul_left : tie.Need-overflow_mul-left
 mul_left c = omega (arith, whole-fits c)
 
-sub-left : tie.Need-overflow-sub-left
+sub-left : tie.Need-overflow_sub-left
 sub-left c = whole-fits c
 
-mul-min : tie.Need-overflow-mul-min
+mul-min : tie.Need-overflow_mul-whole
 mul-min c = omega (arith, budgets-fit c)
 
-add-min : tie.Need-overflow-add-min
+add-min : tie.Need-overflow_add-whole
 add-min c = omega (arith, budgets-fit c.before, c.min.ensures)
 
 returns : tie.Need-returns
 unfolding interference
-returns c = c.min2.ensures ∙ rw c.before.min.ensures
+returns c = c.min-2.ensures ∙ rw c.min.ensures
 
 pub divided_part_spec : {M : Type 1} → statement M
 divided_part_spec =

@@ -9,24 +9,24 @@ use Rattle.laws.proofs.Replaced.{replaced_more, replaced_at}
 use Rattle.judge.proofs.numbers.numbers_of.Statement.{statement}
 use Rattle.judge.proofs.numbers.numbers_of.Tie as tie
 
-abbrev invariant-loop : tie.invariant-loop
+abbrev invariant-loop : tie.invariant-loop-i
 invariant-loop count tasks numbers₀ i₀ numbers i =
     (i ≤ count)
     × (numbers.periods ≡ replaced i (λ j. (get_or tasks j zero_task).period) numbers₀.periods)
     × (numbers.budgets ≡ replaced i (λ j. (get_or tasks j zero_task).budget) numbers₀.budgets)
     × (numbers.deadlines ≡ replaced i (λ j. (get_or tasks j zero_task).deadline) numbers₀.deadlines)
 
-abbrev decreases-loop : tie.decreases-loop
+abbrev decreases-loop : tie.decreases-loop-i
 decreases-loop count tasks numbers₀ i₀ numbers i = count - i
 
-loop-holds : tie.Need-loop-init invariant-loop decreases-loop
+loop-holds : tie.Need-loop-i-init invariant-loop decreases-loop
 unfolding replaced
 loop-holds c = (omega arith, refl, refl, refl)
 
-loop-again : tie.Need-loop-preserved invariant-loop decreases-loop
+loop-again : tie.Need-loop-i-preserved invariant-loop decreases-loop
 unfolding zero_task
 loop-again c =
-    let v = c.before.before.loop.invariant in (
+    let v = c.loop-i.invariant in (
       omega arith,
       replaced_more _ _ _ v.1 refl,
       replaced_more _ _ _ v.2 refl,
@@ -35,8 +35,8 @@ loop-again c =
 
 returns : tie.Need-returns invariant-loop decreases-loop
 returns c =
-    let v = c.before.loop.invariant in
-    let n = c.before.loop.i in
+    let v = c.loop-i.invariant in
+    let n = c.loop-i.i in
     record {
       same_period = λ i h. rw v.1 (replaced_at _ _ 0 n i (omega arith) (omega arith));
       same_budget = λ i h. rw v.2 (replaced_at _ _ 0 n i (omega arith) (omega arith));

@@ -12,23 +12,22 @@ use Rattle.judge.proofs.rounds.slack_of.Tie as tie
 small : (s : tie.Start) → s.args.cores * (s.args.deadline - s.args.budget) ≤ 16_000_000
 small s = omega (arith, mul-le-mul_right (s.args.deadline - s.args.budget) s.requires.0.3)
 
-mul-needed : tie.Need-overflow-mul-needed
+mul-needed : tie.Need-overflow_mul-needed
 mul-needed c = omega (arith, small c)
 
-add-needed : tie.Need-overflow-add-needed
-add-needed c = omega (arith, small c.before, c.own-part.ensures)
+add-needed : tie.Need-overflow_add-needed
+add-needed c = omega (arith, small c.before, c.own_part.ensures)
 
-add-result : tie.Need-overflow-add-result
-add-result c = omega (arith, small c.before.before, c.before.own-part.ensures, c.saturating-sub.ensures)
+add-result : tie.Need-overflow_add-result
+add-result c = omega (arith, small c.before.before, c.own_part.ensures, c.saturating_sub.ensures)
 
 returns : tie.Need-returns
 returns c =
-    let s = c.before.before in
-    let a = s.args in
+    let a = c.args in
     let spare = a.deadline - a.budget in
     let own = min a.budget spare in
-    let lacking : c.saturating-sub.result ≡ a.cores * spare - (a.sum - own) = omega (arith, c.saturating-sub.ensures, c.before.own-part.ensures, s.requires.1) in
-    rw lacking (sym (new_rounded a.cores spare (a.sum - own) s.requires.0.2))
+    let lacking : c.saturating_sub.result ≡ a.cores * spare - (a.sum - own) = omega (arith, c.saturating_sub.ensures, c.own_part.ensures, c.requires.1) in
+    rw lacking (sym (new_rounded a.cores spare (a.sum - own) c.requires.0.2))
 
 pub slack_of_spec : {M : Type 1} → statement M
 slack_of_spec =

@@ -7,24 +7,20 @@ use borrow.Author.Rules.{rules}
 use Rattle.judge.proofs.slack.judge_by_slack.Statement.{statement}
 use Rattle.judge.proofs.slack.judge_by_slack.Tie as tie
 
-returns : tie.Need-returns
+returns : tie.Need-returns-in-Refused
 unfolding slack_judged slack_judged_after slack_values_of
 returns c =
-    let d = c.before.before.before in
-    rw (← d.check.ensures, c.before.outcome.given.1)
+    rw (← c.check-outcome.ensures, c.in-Refused.is)
 
-slack-of-tasks-requires : tie.Need-slack-of-tasks-requires
+slack-of-tasks-requires : tie.Need-slack_of_tasks-slack-requires
 slack-of-tasks-requires c κs =
-    let d = c.before.before.before in
-    let p = passes _ _ (sym d.check.ensures ∙ c.before.enum_told.given.1) in
+    let p = passes _ _ (sym c.check-outcome.ensures ∙ c.in_default.is) in
     ((p.count_fits, p.cores_some, p.cores_fit), p.tasks_fit)
 
-returns-2 : tie.Need-returns-2
+returns-2 : tie.Need-returns
 unfolding slack_judged slack_judged_after slack_values_of tasks_of
 returns-2 c =
-    let e = c.before.before in
-    let d = e.before.before in
-    rw (← d.check.ensures, e.enum_told.given.1, c.slack-of-tasks.ensures.0, c.slack-of-tasks.ensures.1)
+    rw (← c.check-outcome.ensures, c.in_default.is, c.slack_of_tasks-slack.ensures.0, c.slack_of_tasks-slack.ensures.1)
 
 pub judge_by_slack_spec : {M : Type 1} → statement M
 judge_by_slack_spec =

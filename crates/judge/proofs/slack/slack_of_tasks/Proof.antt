@@ -10,41 +10,33 @@ use Rattle.judge.proofs.slack.slack_of_tasks.Statement.{statement}
 use Rattle.judge.proofs.slack.slack_of_tasks.Tie as tie
 
 in-ranges :
-    (c : tie.After-numbers-of)
-    → let numbers = c.Numbers-of.result in Ranges c.before.args.count numbers.periods numbers.budgets numbers.deadlines
-in-ranges c = ranges _ _ _ _ _ c.Numbers-of.ensures c.before.requires.1
+    (c : tie.After-numbers_of-numbers)
+    → let numbers = c.numbers_of-numbers.result in Ranges c.args.count numbers.periods numbers.budgets numbers.deadlines
+in-ranges c = ranges _ _ _ _ _ c.numbers_of-numbers.ensures c.requires.1
 
-window-sums-requires : tie.Need-window-sums-requires
+window-sums-requires : tie.Need-window_sums-requires
 window-sums-requires c κs =
-    let d = c.before.before.before.before.before in
-    ((d.before.requires.0.0, refl), (in-ranges d, λ k h. get_or-replicate 32 k 0 0 (omega arith)))
+    ((c.requires.0.0, refl), (in-ranges c.before.before.before.before, λ k h. get_or-replicate 32 k 0 0 (omega arith)))
 
-last-round-requires : tie.Need-last-round-requires
+last-round-requires : tie.Need-last_round-rounds-requires
 last-round-requires c κs =
-    let w = c.before.before.before.before.before in
-    let d = w.before.before.before.before.before.before in
-    let p = d.before.requires.0 in
-    ((p.0, w.window-sums.ensures.0, p.1, p.2), (in-ranges d, w.window-sums.ensures.1))
+    let p = c.requires.0 in
+    ((p.0, c.window_sums.ensures.0, p.1, p.2), (in-ranges c.before.before.before.before.before.before.before.before.before, c.window_sums.ensures.1))
 
-count-by-sums-requires : tie.Need-count-by-sums-requires
+count-by-sums-requires : tie.Need-count_by_sums-reaching-requires
 count-by-sums-requires c κs =
-    let w = c.before.before.before.before.before.before.before.before.before.before in
-    let d = w.before.before.before.before.before.before in
-    let p = d.before.requires.0 in
-    let r = in-ranges d in
+    let p = c.requires.0 in
+    let r = in-ranges c.before.before.before.before.before.before.before.before.before.before.before.before.before in
     ((p.0, p.2), (λ k h. (r k h).1, λ k h. omega (arith, r k h)))
 
 returns : tie.Need-returns
 returns c =
-    let l = c.before.before.before.before.before in
-    let w = l.before.before.before.before.before.before in
-    let d = w.before.before.before.before.before.before in
-    let m = d.before.args.cores in
-    let n = d.Numbers-of.result in (
-      l.last_round.ensures.0
-          ∙ ap (λ (r : Rounds). r.made) (rounds_same_as _ _ _ _ _ d.Numbers-of.ensures m),
-      admits_listed d.before.args.count n.periods n.budgets n.deadlines m l.last_round.new.1.1.1.0 _ c.count-by-sums.ensures l.last_round.ensures.1
-          ∙ admits_same_as _ _ _ _ _ d.Numbers-of.ensures m,
+    let m = c.args.cores in
+    let n = c.numbers_of-numbers.result in (
+      c.last_round-rounds.ensures.0
+          ∙ ap (λ (r : Rounds). r.made) (rounds_same_as _ _ _ _ _ c.numbers_of-numbers.ensures m),
+      admits_listed c.args.count n.periods n.budgets n.deadlines m c.last_round-rounds.new.sums _ c.count_by_sums-reaching.ensures c.last_round-rounds.ensures.1
+          ∙ admits_same_as _ _ _ _ _ c.numbers_of-numbers.ensures m,
     )
 
 pub slack_of_tasks_spec : {M : Type 1} → statement M

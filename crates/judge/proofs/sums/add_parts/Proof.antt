@@ -9,48 +9,44 @@ use Rattle.judge.specs.Parts.{part, spare_at}
 use Rattle.judge.proofs.sums.add_parts.Statement.{statement}
 use Rattle.judge.proofs.sums.add_parts.Tie as tie
 
-abbrev invariant-loop : tie.invariant-loop
+abbrev invariant-loop : tie.invariant-loop-k
 invariant-loop period budget budgets deadlines sums₀ count inverse k₀ sums k =
     (k ≤ count)
     × (length sums ≡ 32)
     × (sums ≡ replaced k (λ j. get_or sums₀ j 0 + part period budget (get_or deadlines j 0) (spare_at budgets deadlines j)) sums₀)
 
-abbrev decreases-loop : tie.decreases-loop
+abbrev decreases-loop : tie.decreases-loop-k
 decreases-loop period budget budgets deadlines sums₀ count inverse k₀ sums k = count - k
 
-loop-holds : tie.Need-loop-init invariant-loop decreases-loop
+loop-holds : tie.Need-loop-k-init invariant-loop decreases-loop
 unfolding replaced
-loop-holds c = (omega arith, c.before.requires.1.0.1, refl)
+loop-holds c = (omega arith, c.requires.1.0.1, refl)
 
-sub-spare : tie.Need-overflow-sub-spare invariant-loop decreases-loop
+sub-spare : tie.Need-overflow_sub-spare invariant-loop decreases-loop
 sub-spare c =
-    let l = c.before.before.before in
-    l.before.before.requires.1.1.0 l.loop.k (omega arith)
+    c.requires.1.1.0 c.loop-k.k (omega arith)
 
-part-of-requires : tie.Need-part-of-requires invariant-loop decreases-loop
+part-of-requires : tie.Need-part_of-requires invariant-loop decreases-loop
 part-of-requires c κs =
-    let l = c.before.before.before.before in
-    let p = l.before.before.requires in
-    ((p.0.0, p.0.1, p.0.2, p.1.1.1.0 l.loop.k (omega arith)), l.before.inverse-of.ensures)
+    let p = c.requires in
+    ((p.0.0, p.0.1, p.0.2, p.1.1.1.0 c.loop-k.k (omega arith)), c.inverse_of-inverse.ensures)
 
 -- The sum of task k has not been added to.
-sum-before : (l : tie.At-loop invariant-loop decreases-loop) → get_or l.loop.sums l.loop.k 0 ≡ get_or l.before.before.args.sums.now l.loop.k 0
-sum-before l = rw l.loop.invariant.2 (replaced_past _ _ 0 l.loop.k l.loop.k (omega arith))
+sum-before : (l : tie.At-loop-k invariant-loop decreases-loop) → get_or l.loop-k.sums l.loop-k.k 0 ≡ get_or l.args.sums.now l.loop-k.k 0
+sum-before l = rw l.loop-k.invariant.2 (replaced_past _ _ 0 l.loop-k.k l.loop-k.k (omega arith))
 
-add-sums : tie.Need-overflow-add-sums invariant-loop decreases-loop
+add-sums : tie.Need-overflow_add-sums invariant-loop decreases-loop
 add-sums c =
-    let l = c.before.before.before.before.before in
-    let p = l.before.before.requires.1.1.1 in
-    omega (arith, c.part_of.ensures, p.0 l.loop.k (omega arith), p.1 l.loop.k (omega arith), sum-before l)
+    let p = c.requires.1.1.1 in
+    omega (arith, c.part_of.ensures, p.0 c.loop-k.k (omega arith), p.1 c.loop-k.k (omega arith), sum-before c.before.before.before.before.before.before.before.before)
 
-loop-again : tie.Need-loop-preserved invariant-loop decreases-loop
+loop-again : tie.Need-loop-k-preserved invariant-loop decreases-loop
 loop-again c =
-    let l = c.before.before.before.before.before in
-    (omega arith, simp length-set l.loop.invariant.1, replaced_more _ _ _ l.loop.invariant.2 (omega (arith, c.part_of.ensures, sum-before l)))
+    (omega arith, simp length-set c.loop-k.invariant.1, replaced_more _ _ _ c.loop-k.invariant.2 (omega (arith, c.part_of.ensures, sum-before c.before.before.before.before.before.before.before.before)))
 
 returns : tie.Need-returns invariant-loop decreases-loop
 returns c =
-    let l = c.before.loop in
+    let l = c.loop-k in
     (l.invariant.1, λ k h. rw l.invariant.2 (replaced_at _ _ 0 l.k k (omega arith) (omega arith)))
 
 pub add_parts_spec : {M : Type 1} → statement M

@@ -10,7 +10,7 @@ use Rattle.judge.specs.Parts.{part, spare_at}
 use Rattle.judge.proofs.sums.move_parts.Statement.{statement}
 use Rattle.judge.proofs.sums.move_parts.Tie as tie
 
-abbrev invariant-loop : tie.invariant-loop
+abbrev invariant-loop : tie.invariant-loop-k
 invariant-loop period budget before slack budgets deadlines sums₀ count inverse k₀ sums k =
     (k ≤ count)
     × (length sums ≡ 32)
@@ -22,77 +22,66 @@ invariant-loop period budget before slack budgets deadlines sums₀ count invers
     + part period budget (get_or deadlines j 0 - slack) (spare_at budgets deadlines j))
     sums₀)
 
-abbrev decreases-loop : tie.decreases-loop
+abbrev decreases-loop : tie.decreases-loop-k
 decreases-loop period budget before slack budgets deadlines sums₀ count inverse k₀ sums k = count - k
 
-loop-holds : tie.Need-loop-init invariant-loop decreases-loop
+loop-holds : tie.Need-loop-k-init invariant-loop decreases-loop
 unfolding replaced
-loop-holds c = (omega arith, c.before.requires.1.0.1, refl)
+loop-holds c = (omega arith, c.requires.1.0.1, refl)
 
-sub-spare : tie.Need-overflow-sub-spare invariant-loop decreases-loop
+sub-spare : tie.Need-overflow_sub-spare invariant-loop decreases-loop
 sub-spare c =
-    let l = c.before.before.before in
-    l.before.before.requires.1.1.0 l.loop.k (omega arith)
+    c.requires.1.1.0 c.loop-k.k (omega arith)
 
 -- A shortened window is no longer than a period may be.
-part-of-requires : tie.Need-part-of-requires invariant-loop decreases-loop
+part-of-requires : tie.Need-part_of-old-requires invariant-loop decreases-loop
 part-of-requires c κs =
-    let l = c.before.before.before.before in
-    let p = l.before.before.requires in
-    ((p.0.0, p.0.1, p.0.2, omega (arith, p.1.1.1.0 l.loop.k (omega arith), c.saturating-sub.ensures)), l.before.inverse-of.ensures)
+    let p = c.requires in
+    ((p.0.0, p.0.1, p.0.2, omega (arith, p.1.1.1.0 c.loop-k.k (omega arith), c.saturating_sub.ensures)), c.inverse_of-inverse.ensures)
 
-part-of-requires-2 : tie.Need-part-of-requires-2 invariant-loop decreases-loop
+part-of-requires-2 : tie.Need-part_of-new-requires invariant-loop decreases-loop
 part-of-requires-2 c κs =
-    let l = c.before.before.before.before.before.before in
-    let p = l.before.before.requires in
-    ((p.0.0, p.0.1, p.0.2, omega (arith, p.1.1.1.0 l.loop.k (omega arith), c.saturating-sub2.ensures)), l.before.inverse-of.ensures)
+    let p = c.requires in
+    ((p.0.0, p.0.1, p.0.2, omega (arith, p.1.1.1.0 c.loop-k.k (omega arith), c.saturating_sub-in-loop-k.ensures)), c.inverse_of-inverse.ensures)
 
 -- The sum of task k is still that before.
-sum-before : (l : tie.At-loop invariant-loop decreases-loop) → get_or l.loop.sums l.loop.k 0 ≡ get_or l.before.before.args.sums.now l.loop.k 0
-sum-before l = rw l.loop.invariant.2 (replaced_past _ _ 0 l.loop.k l.loop.k (omega arith))
+sum-before : (l : tie.At-loop-k invariant-loop decreases-loop) → get_or l.loop-k.sums l.loop-k.k 0 ≡ get_or l.args.sums.now l.loop-k.k 0
+sum-before l = rw l.loop-k.invariant.2 (replaced_past _ _ 0 l.loop-k.k l.loop-k.k (omega arith))
 
 -- The two parts are those of the shortened windows.
-old-part : (c : tie.After-part-of invariant-loop decreases-loop) →
-    let l = c.before.before.before.before.before in
-    let a = l.before.before.args in
-    let k = l.loop.k in
-    c.part_of.result
+old-part : (c : tie.After-part_of-old invariant-loop decreases-loop) →
+    let a = c.args in
+    let k = c.loop-k.k in
+    c.part_of-old.result
     ≡ part a.period a.budget (get_or a.deadlines.now k 0 - a.before) (spare_at a.budgets.now a.deadlines.now k)
-old-part c = c.part_of.ensures ∙ rw c.before.saturating-sub.ensures
+old-part c = c.part_of-old.ensures ∙ rw c.saturating_sub.ensures
 
-new-part : (c : tie.After-part-of2 invariant-loop decreases-loop) →
-    let l = c.before.before.before.before.before.before.before in
-    let a = l.before.before.args in
-    let k = l.loop.k in
-    c.part-of2.result
+new-part : (c : tie.After-part_of-new invariant-loop decreases-loop) →
+    let a = c.args in
+    let k = c.loop-k.k in
+    c.part_of-new.result
     ≡ part a.period a.budget (get_or a.deadlines.now k 0 - a.slack) (spare_at a.budgets.now a.deadlines.now k)
-new-part c = c.part-of2.ensures ∙ rw c.before.saturating-sub2.ensures
+new-part c = c.part_of-new.ensures ∙ rw c.saturating_sub-in-loop-k.ensures
 
-sub_sums : tie.Need-overflow-sub-sums invariant-loop decreases-loop
+sub_sums : tie.Need-overflow_sub-sums invariant-loop decreases-loop
 sub_sums c =
-    let d = c.before in
-    let l = d.before.before.before.before.before.before.before in
-    omega (arith, old-part d.before.before, sum-before l, l.before.before.requires.1.1.1.1 l.loop.k (omega arith))
+    omega (arith, old-part c.before.before.before.before, sum-before c.before.before.before.before.before.before.before.before.before.before.before, c.requires.1.1.1.1 c.loop-k.k (omega arith))
 
-add-sums : tie.Need-overflow-add-sums invariant-loop decreases-loop
+add-sums : tie.Need-overflow_add-sums invariant-loop decreases-loop
 add-sums c =
-    let d = c.before in
-    let l = d.before.before.before.before.before.before.before in
-    let p = l.before.before.requires.1.1.1 in
-    omega (arith, new-part d, sum-before l, p.0 l.loop.k (omega arith), p.1 l.loop.k (omega arith))
+    let p = c.requires.1.1.1 in
+    omega (arith, new-part c.before.before, sum-before c.before.before.before.before.before.before.before.before.before.before.before, p.0 c.loop-k.k (omega arith), p.1 c.loop-k.k (omega arith))
 
-loop-again : tie.Need-loop-preserved invariant-loop decreases-loop
-loop-again c =
-    let d = c.before in
-    let l = d.before.before.before.before.before.before.before in (
-      omega arith,
-      simp length-set l.loop.invariant.1,
-      replaced_more _ _ _ l.loop.invariant.2 (rw (sum-before l, old-part d.before.before, new-part d)),
-    )
+loop-again : tie.Need-loop-k-preserved invariant-loop decreases-loop
+loop-again c = (
+  omega arith,
+  simp length-set c.loop-k.invariant.1,
+  replaced_more _ _ _ c.loop-k.invariant.2 (rw (sum-before c.before.before.before.before.before.before.before.before.before.before.before, old-part c.before.before.before.before, new-part c.before.before)),
+)
 
 returns : tie.Need-returns invariant-loop decreases-loop
 returns c =
-    let l = c.before.loop in
+    let l = c.loop-k in
     (l.invariant.1, λ k h. rw l.invariant.2 (replaced_at _ _ 0 l.k k (omega arith) (omega arith)))
 
 pub move_parts_spec : {M : Type 1} → statement M

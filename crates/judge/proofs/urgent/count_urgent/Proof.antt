@@ -9,29 +9,25 @@ use Rattle.judge.proofs.urgent.count_urgent.Statement.{statement}
 use Rattle.judge.proofs.urgent.count_urgent.Tie as tie
 
 in-ranges :
-    (c : tie.After-numbers-of)
-    → let numbers = c.Numbers-of.result in Ranges c.before.args.count numbers.periods numbers.budgets numbers.deadlines
-in-ranges c = ranges _ _ _ _ _ c.Numbers-of.ensures c.before.requires.1
+    (c : tie.After-numbers_of-numbers)
+    → let numbers = c.numbers_of-numbers.result in Ranges c.args.count numbers.periods numbers.budgets numbers.deadlines
+in-ranges c = ranges _ _ _ _ _ c.numbers_of-numbers.ensures c.requires.1
 
-window-sums-requires : tie.Need-window-sums-requires
+window-sums-requires : tie.Need-window_sums-requires
 window-sums-requires c κs =
-    let d = c.before.before.before.before.before in
-    ((d.before.requires.0.0, refl), (in-ranges d, λ k h. get_or-replicate 32 k 0 0 (omega arith)))
+    ((c.requires.0.0, refl), (in-ranges c.before.before.before.before, λ k h. get_or-replicate 32 k 0 0 (omega arith)))
 
-count-by-sums-requires : tie.Need-count-by-sums-requires
+count-by-sums-requires : tie.Need-count_by_sums-requires
 count-by-sums-requires c κs =
-    let d = c.before.before.before.before.before.before.before.before.before.before in
-    let r = in-ranges d in
-    (d.before.requires.0, (λ k h. (r k h).1, λ k h. omega (arith, r k h)))
+    let r = in-ranges c.before.before.before.before.before.before.before.before in
+    (c.requires.0, (λ k h. (r k h).1, λ k h. omega (arith, r k h)))
 
 returns : tie.Need-returns
 returns c =
-    let w = c.before.before.before.before.before in
-    let d = w.before.before.before.before.before.before in
-    let m = d.before.args.cores in
-    let n = d.Numbers-of.result in
-    urgent_listed d.before.args.count n.periods n.budgets n.deadlines m w.window-sums.new.1.1.1.0 _ c.count-by-sums.ensures w.window-sums.ensures.1
-    ∙ urgent_same _ _ _ _ _ d.Numbers-of.ensures m
+    let m = c.args.cores in
+    let n = c.numbers_of-numbers.result in
+    urgent_listed c.args.count n.periods n.budgets n.deadlines m c.window_sums.new.sums _ c.count_by_sums.ensures c.window_sums.ensures.1
+    ∙ urgent_same _ _ _ _ _ c.numbers_of-numbers.ensures m
 
 pub count_urgent_spec : {M : Type 1} → statement M
 count_urgent_spec =

@@ -44,42 +44,35 @@ module _ (r : RangedTable) (m : ℕ) where
         unfolding first_refusal cores_checked
         none_out c = sym (tasks-then ∙ rw (pass, c))
 
-returns : tie.Need-returns
-returns c = c.too_many.ensures ∙ too_many _ _ c.before.if1.taken
+returns : tie.Need-returns-then-count-gt-MAX_TASKS
+returns c = c.too_many.ensures ∙ too_many _ _ c.if-count-gt-MAX_TASKS.true
 
-returns-2 : tie.Need-returns-2
-returns-2 c = no_task_lem _ _ c.before.if1.left c.if2.taken
+returns-2 : tie.Need-returns-then-count-eq0
+returns-2 c = no_task_lem _ _ c.if-count-gt-MAX_TASKS.false c.if-count-eq0.true
 
 -- where the tasks are tried
-abbrev some-tasks : tie.After-check-tasks → tie.Else2
+abbrev some-tasks : tie.After-check_tasks-outcome → tie.Else-count-eq0
 some-tasks c = c.before.before
 
-returns-3 : tie.Need-returns-3
+returns-3 : tie.Need-returns-in-Refused
 returns-3 c =
-    let d = c.before.before in
-    let e = some-tasks d in
-    let told = c.enum_told.given.1 in
-    told ∙ task-refused _ _ e.before.if1.left e.if2.left _ _ (sym d.check-tasks.ensures ∙ told)
+    let told = c.in-Refused.is in
+    told ∙ task-refused _ _ c.if-count-gt-MAX_TASKS.false c.if-count-eq0.false _ _ (sym c.check_tasks-outcome.ensures ∙ told)
 
 -- past the tasks
 passed :
-    (c : tie.After-enum-told2)
-    → let e = some-tasks c.before.before in
-    let t = e.before.before.args.table in
+    (c : tie.In_default)
+    → let t = c.args.table in
     tasks_checked t.tasks 0 t.count ≡ Done
-passed c = sym c.before.before.check-tasks.ensures ∙ c.enum-told2.given.1
+passed c = sym c.check_tasks-outcome.ensures ∙ c.in_default.is
 
-returns-4 : tie.Need-returns-4
+returns-4 : tie.Need-returns-then-not-cores_in_range
 returns-4 c =
-    let k = c.before in
-    let e = some-tasks k.before.before.before in
-    cores-out _ _ e.before.if1.left e.if2.left (passed k.before) (was_false k.cores-in-range.ensures c.if3.taken)
+    cores-out _ _ c.if-count-gt-MAX_TASKS.false c.if-count-eq0.false (passed c.before.before) (was_false c.cores_in_range.ensures c.if-not-cores_in_range.true-raw)
 
-returns-5 : tie.Need-returns-5
+returns-5 : tie.Need-returns
 returns-5 c =
-    let k = c.before in
-    let e = some-tasks k.before.before.before in
-    none_out _ _ e.before.if1.left e.if2.left (passed k.before) (was_true k.cores-in-range.ensures c.if3.left)
+    none_out _ _ c.if-count-gt-MAX_TASKS.false c.if-count-eq0.false (passed c.before.before) (was_true c.cores_in_range.ensures c.if-not-cores_in_range.false-raw)
 
 pub check_ranges_spec : {M : Type 1} → statement M
 check_ranges_spec =

@@ -4,27 +4,23 @@ use Rattle.reader.specs.Names.{column_in}
 use Rattle.reader.proofs.names.column_in.Statement.{statement}
 use Rattle.reader.proofs.names.column_in.Tie as tie
 
-returns : tie.Need-returns
+returns : tie.Need-returns-then-same
 unfolding column_in
-returns c = rw (← c.before.same.ensures, c.if1.true)
+returns c = rw (← c.same.ensures, c.if-same.true)
 
-returns-2 : tie.Need-returns-2
+returns-2 : tie.Need-returns-then-same-2
 unfolding column_in
-returns-2 c = let a = c.before.before in rw (← a.before.same.ensures, a.if1.false, ← c.before.same2.ensures, c.if2.true)
+returns-2 c = rw (← c.same.ensures, c.if-same.false, ← c.same-2.ensures, c.if-same-2.true)
 
-returns-3 : tie.Need-returns-3
+returns-3 : tie.Need-returns-then-same-3
 unfolding column_in
 returns-3 c =
-    let b = c.before.before in
-    let a = b.before.before in
-    rw (← a.before.same.ensures, a.if1.false, ← b.before.same2.ensures, b.if2.false, ← c.before.same3.ensures, c.if3.true)
+    rw (← c.same.ensures, c.if-same.false, ← c.same-2.ensures, c.if-same-2.false, ← c.same-3.ensures, c.if-same-3.true)
 
-returns-4 : tie.Need-returns-4
+returns-4 : tie.Need-returns
 unfolding column_in
 returns-4 c =
-    let b = c.before.before in
-    let a = b.before.before in
-    rw (← a.before.same.ensures, a.if1.false, ← b.before.same2.ensures, b.if2.false, ← c.before.same3.ensures, c.if3.false)
+    rw (← c.same.ensures, c.if-same.false, ← c.same-2.ensures, c.if-same-2.false, ← c.same-3.ensures, c.if-same-3.false)
 
 pub column_in_spec : {M : Type 1} → statement M
 column_in_spec =

@@ -5,38 +5,27 @@ use Rattle.reader.proofs.NamesLine.{no_first, no_second, no_end, no_names, all_t
 use Rattle.reader.proofs.names.names_line.Statement.{statement}
 use Rattle.reader.proofs.names.names_line.Tie as tie
 
-returns : tie.Need-returns
-returns c = no_first _ _ c.before.field-up-to.ensures c.if1.true
+returns : tie.Need-returns-then-text-first
+returns c = no_first _ _ c.field_up_to-first.ensures c.if-text-first.true
 
-returns-2 : tie.Need-returns-2
+returns-2 : tie.Need-returns-then-rest-second
 returns-2 c =
-    let a = c.before.before.before in
-    no_second _ _ a.before.field-up-to.ensures a.if1.false _ c.before.field-up-to2.ensures c.if2.true
+    no_second _ _ c.field_up_to-first.ensures c.if-text-first.false _ c.field_up_to-second.ensures c.if-rest-second.true
 
-returns-3 : tie.Need-returns-3
+returns-3 : tie.Need-returns-then-last-third
 returns-3 c =
-    let b = c.before.before.before in
-    let a = b.before.before.before in
-    no_end _ _ a.before.field-up-to.ensures a.if1.false _ b.before.field-up-to2.ensures b.if2.false
-    _ c.before.field-up-to3.ensures c.if3.true
+    no_end _ _ c.field_up_to-first.ensures c.if-text-first.false _ c.field_up_to-second.ensures c.if-rest-second.false
+    _ c.field_up_to-third.ensures c.if-last-third.true
 
-returns-4 : tie.Need-returns-4
+returns-4 : tie.Need-returns-then-not-complete
 returns-4 c =
-    let k = c.before.before in
-    let t = k.before in
-    let b = t.before.before.before in
-    let a = b.before.before.before in
-    no_names _ _ a.before.field-up-to.ensures a.if1.false _ b.before.field-up-to2.ensures b.if2.false
-    _ t.before.field-up-to3.ensures t.if3.false _ k.columns-in.ensures (was_false c.before.complete.ensures c.if4.true)
+    no_names _ _ c.field_up_to-first.ensures c.if-text-first.false _ c.field_up_to-second.ensures c.if-rest-second.false
+    _ c.field_up_to-third.ensures c.if-last-third.false _ c.columns_in-columns.ensures (was_false c.complete.ensures c.if-not-complete.true-raw)
 
-returns-5 : tie.Need-returns-5
+returns-5 : tie.Need-returns
 returns-5 c =
-    let k = c.before.before in
-    let t = k.before in
-    let b = t.before.before.before in
-    let a = b.before.before.before in
-    all_three _ _ a.before.field-up-to.ensures a.if1.false _ b.before.field-up-to2.ensures b.if2.false
-    _ t.before.field-up-to3.ensures t.if3.false _ k.columns-in.ensures (was_true c.before.complete.ensures c.if4.false)
+    all_three _ _ c.field_up_to-first.ensures c.if-text-first.false _ c.field_up_to-second.ensures c.if-rest-second.false
+    _ c.field_up_to-third.ensures c.if-last-third.false _ c.columns_in-columns.ensures (was_true c.complete.ensures c.if-not-complete.false-raw)
 
 pub names_line_spec : {M : Type 1} → statement M
 names_line_spec =

@@ -10,4 +10,5 @@ unfolding empty_table zero_task periods_of budgets_of deadlines_of
 returns c = (refl, refl, refl)
 
 pub clear_spec : {M : Type 1} → statement M
-clear_spec = tie.close (tie.spec returns)
+clear_spec = tie.close (tie.spec
+    returns)

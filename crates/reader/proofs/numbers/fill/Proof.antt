@@ -11,40 +11,37 @@ use Rattle.reader.proofs.numbers.fill.Tie as tie
 
 -- the names line that was read
 names :
-    (c : tie.After-columns)
-    → names_line c.before.before.before.before.before.args.text.now ≡ Read c.columns.given.0.0 c.columns.given.0.1.0
-names c = sym c.before.before.names-line.ensures ∙ c.columns.given.1
+    (c : tie.In-Read)
+    → names_line c.args.text.now ≡ Read c.in-Read.columns c.in-Read.length
+names c = sym c.names_line.ensures ∙ c.in-Read.is
 
-returns : tie.Need-returns
+returns : tie.Need-returns-then-text-gt-MAX_TEXT_LENGTH
 returns c =
-    let z = c.before.before.before.requires in
+    let z = c.requires in
     let f = none_long _ _ _ z.0 z.1 z.2 in
-    (too_long _ _ _ c.before.if1.true c.refusal.ensures, (f.periods_long, f.budgets_long, f.deadlines_long))
+    (too_long _ _ _ c.if-text-gt-MAX_TEXT_LENGTH.true c.refusal.ensures, (f.periods_long, f.budgets_long, f.deadlines_long))
 
-returns-2 : tie.Need-returns-2
+returns-2 : tie.Need-returns-in_default
 returns-2 c =
-    let n = c.before.before.before in
-    let z = n.before.before.before.requires in
+    let z = c.requires in
     let f = none_long _ _ _ z.0 z.1 z.2 in (
-      bad_names _ _ _ n.before.if1.false (sym n.names-line.ensures ∙ c.before.enum_told.given.1) c.refusal2.ensures,
+      bad_names _ _ _ c.if-text-gt-MAX_TEXT_LENGTH.false (sym c.names_line.ensures ∙ c.in_default.is) c.refusal-in_default.ensures,
       (f.periods_long, f.budgets_long, f.deadlines_long),
     )
 
-sub-value-lines : tie.Need-overflow-sub-value-lines
-sub-value-lines c = (names_read _ _ _ (names c.before)).within
+sub-value-lines : tie.Need-slice_bounds-value_lines-count
+sub-value-lines c = (names_read _ _ _ (names c)).within
 
-part-value-lines-start : tie.Need-slice-bounds-value-lines-start
-part-value-lines-start c = (names_read _ _ _ (names c.before)).within
+part-value-lines-start : tie.Need-slice_bounds-value_lines-start
+part-value-lines-start c = (names_read _ _ _ (names c)).within
 
-value-lines-requires : tie.Need-value-lines-requires
+value-lines-requires : tie.Need-value_lines-requires
 value-lines-requires c κs =
-    let n = c.before.before.before.before.before in
-    (named _ _ _ (names n), n.before.before.before.before.before.requires)
+    (named _ _ _ (names c.before.before.before.before), c.requires)
 
-returns-3 : tie.Need-returns-3
+returns-3 : tie.Need-returns
 returns-3 c =
-    let n = c.before.before.before.before.before.before in
-    (by_lines _ _ _ n.before.before.before.if1.false _ _ (names n) c.value-lines.ensures.0, c.value-lines.ensures.1)
+    (by_lines _ _ _ c.if-text-gt-MAX_TEXT_LENGTH.false _ _ (names c.before.before.before.before.before) c.value_lines.ensures.0, c.value_lines.ensures.1)
 
 pub fill_spec : {M : Type 1} → statement M
 fill_spec =

@@ -11,8 +11,8 @@ task_of_spec =
     (tie.spec
     (λ c. omega (arith, columns_below _ c.requires))
     (λ c. omega (arith, columns_below _ c.requires))
-    (λ c. omega (arith, columns_below _ c.before.requires))
-    (λ c. omega (arith, columns_below _ c.before.requires))
-    (λ c. omega (arith, columns_below _ c.before.before.requires))
-    (λ c. omega (arith, columns_below _ c.before.before.requires))
+    (λ c. omega (arith, columns_below _ c.requires))
+    (λ c. omega (arith, columns_below _ c.requires))
+    (λ c. omega (arith, columns_below _ c.requires))
+    (λ c. omega (arith, columns_below _ c.requires))
     (λ c. refl))

@@ -8,68 +8,59 @@ use Rattle.reader.proofs.values.value_line.Statement.{statement}
 use Rattle.reader.proofs.values.value_line.Tie as tie
 
 -- the values that were read, each where the next is looked for
-first : (c : tie.Else1) → Ended space c.before.before.before.before.args.text.now c.before.value-up-to.result
-first c = ended _ _ _ c.before.value-up-to.ensures.0 c.if1.false
+first : (c : tie.Else-first-eq0) → Ended space c.args.text.now c.value_up_to-first.result
+first c = ended _ _ _ c.value_up_to-first.ensures.0 c.if-first-eq0.false
 
-abbrev first_of : tie.After-value-up-to2 → tie.Else1
+abbrev first_of : tie.After-value_up_to-second → tie.Else-first-eq0
 first_of c = c.before.before.before
 
 second :
-    (c : tie.Else2)
-    → let a = (first_of c.before).before in
-    Ended space (past a.before.before.before.args.text.now a.value-up-to.result) c.before.value-up-to2.result
-second c = ended _ _ _ c.before.value-up-to2.ensures.0 c.if2.false
+    (c : tie.Else-second-eq0)
+    → Ended space (past c.args.text.now c.value_up_to-first.result) c.value_up_to-second.result
+second c = ended _ _ _ c.value_up_to-second.ensures.0 c.if-second-eq0.false
 
-abbrev second-of : tie.After-value-up-to3 → tie.Else2
+abbrev second-of : tie.After-value_up_to-third → tie.Else-second-eq0
 second-of c = c.before.before.before
 
 third :
-    (c : tie.Else3)
-    → let b = (second-of c.before).before in
-    let a = (first_of b).before in
-    Ended line_end (past (past a.before.before.before.args.text.now a.value-up-to.result) b.value-up-to2.result) c.before.value-up-to3.result
-third c = ended _ _ _ c.before.value-up-to3.ensures.0 c.if3.false
+    (c : tie.Else-third-eq0)
+    → Ended line_end (past (past c.args.text.now c.value_up_to-first.result) c.value_up_to-second.result) c.value_up_to-third.result
+third c = ended _ _ _ c.value_up_to-third.ensures.0 c.if-third-eq0.false
 
-returns : tie.Need-returns
-returns c = let r = no_first _ _ (not_ended_lem _ _ _ c.before.value-up-to.ensures.0 c.if1.true) in (r.count, r.values)
+returns : tie.Need-returns-then-first-eq0
+returns c = let r = no_first _ _ (not_ended_lem _ _ _ c.value_up_to-first.ensures.0 c.if-first-eq0.true) in (r.count, r.values)
 
-sub-rest : tie.Need-overflow-sub-rest
+sub-rest : tie.Need-slice_bounds-rest-count
 sub-rest c = (first c).within
 
-part-rest-start : tie.Need-slice-bounds-rest-start
+part-rest-start : tie.Need-slice_bounds-rest-start
 part-rest-start c = (first c).within
 
-returns-2 : tie.Need-returns-2
+returns-2 : tie.Need-returns-then-second-eq0
 returns-2 c =
-    let r = no_second _ _ (first (first_of c.before)) _ (not_ended_lem _ _ _ c.before.value-up-to2.ensures.0 c.if2.true) in
+    let r = no_second _ _ (first c.before.before.before.before) _ (not_ended_lem _ _ _ c.value_up_to-second.ensures.0 c.if-second-eq0.true) in
     (r.count, r.values)
 
-sub-last : tie.Need-overflow-sub-last
+sub-last : tie.Need-slice_bounds-last-count
 sub-last c = (second c).within
 
-part-last-start : tie.Need-slice-bounds-last-start
+part-last-start : tie.Need-slice_bounds-last-start
 part-last-start c = (second c).within
 
-returns-3 : tie.Need-returns-3
+returns-3 : tie.Need-returns-then-third-eq0
 returns-3 c =
-    let b = second-of c.before in
-    let r = no_third _ _ (first (first_of b.before)) _ (second b) _ (not_ended_lem _ _ _ c.before.value-up-to3.ensures.0 c.if3.true) in
+    let r = no_third _ _ (first c.before.before.before.before.before.before.before.before) _ (second c.before.before.before.before) _ (not_ended_lem _ _ _ c.value_up_to-third.ensures.0 c.if-third-eq0.true) in
     (r.count, r.values)
 
-add-result-5 : tie.Need-overflow-add-result-5
+add-result-5 : tie.Need-overflow_add-result-5
 add-result-5 c =
-    let b = second-of c.before in
-    let a = first_of b.before in
-    omega (arith, fits _ _ (first a) _ (second b) _ (third c), a.before.before.before.before.good)
+    omega (arith, fits _ _ (first c.before.before.before.before.before.before.before.before) _ (second c.before.before.before.before) _ (third c), c.well_formed)
 
-returns-4 : tie.Need-returns-4
+returns-4 : tie.Need-returns
 returns-4 c =
-    let b = second-of c.before in
-    let a = first_of b.before in
-    let start = a.before.before.before.before in
     let r =
-    all_three _ _ (first a) _ (second b) _ (third c) start.args.values.now _ _ _ start.pre a.before.value-up-to.ensures.1 b.before.value-up-to2.ensures.1
-    c.before.value-up-to3.ensures.1
+    all_three _ _ (first c.before.before.before.before.before.before.before.before) _ (second c.before.before.before.before) _ (third c) c.args.values.now _ _ _ c.requires c.value_up_to-first.ensures.1 c.value_up_to-second.ensures.1
+    c.value_up_to-third.ensures.1
     in
     (r.count, r.values)
 

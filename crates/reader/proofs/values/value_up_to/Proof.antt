@@ -14,13 +14,14 @@ use Rattle.text.proofs.Scan.{Passed, passed_none, passed_more, Other, at_other, 
 use Rattle.reader.specs.Value.{is_value}
 use Rattle.reader.proofs.ValueScan.{largest, Digits, digits_none, digits_more, value_number, no_digits, no_digit, too_long, zero_leads, is_value_lem, sum_fits}
 use Rattle.reader.proofs.values.value_up_to.Statement.{statement}
+use Rattle.reader.proofs.values.value_up_to.Lts.{then-number-eq0+else-i-gt0, else-number-eq0}
 use Rattle.reader.proofs.values.value_up_to.Tie as tie
 
-abbrev invariant-loop : tie.invariant-loop
+abbrev invariant-loop : tie.invariant-loop-i
 invariant-loop text end values₀ place number₀ i₀ values number i =
     Passed end text i × Digits (before end text) number i × (values ≡ values₀)
 
-abbrev decreases-loop : tie.decreases-loop
+abbrev decreases-loop : tie.decreases-loop-i
 decreases-loop text end values₀ place number₀ i₀ values number i = length text - i
 
 -- no value is put, where none stands before the end
@@ -38,92 +39,76 @@ module _ (end : ℕ) (text values values₀ : List ℕ) (place : ℕ) (same : va
 
 -- a byte that is not the end is one of those before it
 other :
-    (c : tie.Else1 invariant-loop decreases-loop)
-    → let l = c.before.before.before in Other l.before.args.end l.before.args.text.now l.loop.i
-other c = at_other _ _ _ c.before.before.before.loop.invariant.0 c.before.before.loop-test.true c.if1.false
+    (c : tie.Else-byte-end invariant-loop decreases-loop)
+    → Other c.args.end c.args.text.now c.loop-i.i
+other c = at_other _ _ _ c.loop-i.invariant.0 c.loop-i-test.true c.if-byte-end.false
 
-loop-holds : tie.Need-loop-init invariant-loop decreases-loop
+loop-holds : tie.Need-loop-i-init invariant-loop decreases-loop
 loop-holds c = (passed_none _ _, digits_none _, refl)
 
-returns : tie.Need-returns invariant-loop decreases-loop
+returns : tie.Need-returns-then-i-eq0 invariant-loop decreases-loop
 returns c =
-    let l = c.before.before.before.before in
-    let m = met _ _ _ l.loop.invariant.0 c.before.before.before.loop-test.true c.before.if1.true in
-    no_value _ _ _ _ _ l.loop.invariant.2 (no_digits _ (m.count ∙ c.if2.true))
+    let m = met _ _ _ c.loop-i.invariant.0 c.loop-i-test.true c.if-byte-end.true in
+    no_value _ _ _ _ _ c.loop-i.invariant.2 (no_digits _ (m.count ∙ c.if-i-eq0.true))
 
-returns-2 : tie.Need-returns-2 invariant-loop decreases-loop
+returns-2 : tie.Need-returns-then-byte-end invariant-loop decreases-loop
 returns-2 c =
-    let l = c.before.before.before.before in
-    let m = met _ _ _ l.loop.invariant.0 c.before.before.before.loop-test.true c.before.if1.true in
-    let v = is_value_lem _ _ _ l.loop.invariant.1 m.count (omega (arith, c.if2.false)) in
-    rw (m.is, ← value_number, v.is, v.value, m.count, l.loop.invariant.2) (refl, refl)
+    let m = met _ _ _ c.loop-i.invariant.0 c.loop-i-test.true c.if-byte-end.true in
+    let v = is_value_lem _ _ _ c.loop-i.invariant.1 m.count (omega (arith, c.if-i-eq0.false)) in
+    rw (m.is, ← value_number, v.is, v.value, m.count, c.loop-i.invariant.2) (refl, refl)
 
-returns-3 : tie.Need-returns-3 invariant-loop decreases-loop
+returns-3 : tie.Need-returns-then-byte-lt48 invariant-loop decreases-loop
 unfolding is_digit
 returns-3 c =
-    let e = c.before in
-    let l = e.before.before.before in
-    no_value _ _ _ _ _ l.loop.invariant.2 (no_digit _ _ _ l.loop.invariant.1 (other e).inside (rw ((other e).same, lt-leb _ _ c.if3.true)))
+    no_value _ _ _ _ _ c.loop-i.invariant.2 (no_digit _ _ _ c.loop-i.invariant.1 (other c.before).inside (rw ((other c.before).same, lt-leb _ _ c.if-byte-lt48.true)))
 
-returns-4 : tie.Need-returns-4 invariant-loop decreases-loop
+returns-4 : tie.Need-returns-then-byte-gt57 invariant-loop decreases-loop
 unfolding is_digit
 returns-4 c =
-    let e = c.before.before in
-    let l = e.before.before.before in
-    no_value _ _ _ _ _ l.loop.invariant.2 (no_digit _ _ _ l.loop.invariant.1 (other e).inside (rw ((other e).same, lt-leb _ _ c.if4.true, and-false)))
+    no_value _ _ _ _ _ c.loop-i.invariant.2 (no_digit _ _ _ c.loop-i.invariant.1 (other c.before.before).inside (rw ((other c.before.before).same, lt-leb _ _ c.if-byte-gt57.true, and-false)))
 
-returns-5 : tie.Need-returns-5 invariant-loop decreases-loop
+returns-5 : tie.Need-returns-then-i-ge-VALUE_DIGITS invariant-loop decreases-loop
 returns-5 c =
-    let e = c.before.before.before in
-    let l = e.before.before.before in
-    no_value _ _ _ _ _ l.loop.invariant.2 (too_long _ _ _ l.loop.invariant.1 (other e).inside (omega (arith, c.if5.true)))
+    no_value _ _ _ _ _ c.loop-i.invariant.2 (too_long _ _ _ c.loop-i.invariant.1 (other c.before.before.before).inside (omega (arith, c.if-i-ge-VALUE_DIGITS.true)))
 
-returns-6 : tie.Need-returns-6 invariant-loop decreases-loop
+returns-6 : tie.Need-returns-then-i-gt0 invariant-loop decreases-loop
 returns-6 c =
-    let e = c.before.before.before.before.before in
-    let l = e.before.before.before in
-    no_value _ _ _ _ _ l.loop.invariant.2 (zero_leads _ _ _ l.loop.invariant.1 (other e).inside c.before.if6.true (omega (arith, c.if7.true)))
+    no_value _ _ _ _ _ c.loop-i.invariant.2 (zero_leads _ _ _ c.loop-i.invariant.1 (other c.before.before.before.before.before).inside c.if-number-eq0.true (omega (arith, c.if-i-gt0.true)))
 
 -- where the next digit is taken
 next-digit :
-    (c : tie.Else4 invariant-loop decreases-loop)
-    → let l = c.before.before.before.before.before in is_digit (get_or (before l.before.args.end l.before.args.text.now) l.loop.i 0) ≡ true
+    (c : tie.Else-byte-gt57 invariant-loop decreases-loop)
+    → is_digit (get_or (before c.args.end c.args.text.now) c.loop-i.i 0) ≡ true
 unfolding is_digit
-next-digit c = rw ((other c.before.before).same, le-leb _ _ c.before.if3.false, le-leb _ _ c.if4.false)
+next-digit c = rw ((other c.before.before).same, le-leb _ _ c.if-byte-lt48.false, le-leb _ _ c.if-byte-gt57.false)
 
 -- the number with it, which fits
 sum :
-    (c : tie.Else5 invariant-loop decreases-loop)
-    → let l = c.before.before.before.before.before.before in
-    l.loop.number * 10 + (get_or l.before.args.text.now l.loop.i 0 - 48) ≤ largest
+    (c : tie.Else-i-ge-VALUE_DIGITS invariant-loop decreases-loop)
+    → c.loop-i.number * 10 + (get_or c.args.text.now c.loop-i.i 0 - 48) ≤ largest
 sum c =
-    let e = c.before.before.before in
-    rw (← (other e).same) (sum_fits _ _ _ e.before.before.before.loop.invariant.1 (other e).inside (next-digit c.before) c.if5.false)
+    rw (← (other c.before.before.before).same) (sum_fits _ _ _ c.loop-i.invariant.1 (other c.before.before.before).inside (next-digit c.before) c.if-i-ge-VALUE_DIGITS.false)
 
-mul-number : tie.Need-overflow-mul-number invariant-loop decreases-loop
+mul-number : tie.Need-overflow_mul-number invariant-loop decreases-loop
 mul-number c = omega (arith, sum c.before)
 
-cast-number : tie.Need-overflow-cast-number invariant-loop decreases-loop
+cast-number : tie.Need-overflow_cast-number invariant-loop decreases-loop
 cast-number c = omega (arith, sum c.before)
 
-add-number : tie.Need-overflow-add-number invariant-loop decreases-loop
+add-number : tie.Need-overflow_add-number invariant-loop decreases-loop
 add-number c = omega (arith, sum c.before)
 
-loop-again : tie.Need-loop-preserved invariant-loop decreases-loop
+loop-again : tie.Need-loop-i-preserved invariant-loop decreases-loop
 loop-again c =
-    let d = c.before in
-    let e = d.before.before.before in
-    let l = e.before.before.before in
-    let first : l.loop.number ≡ 0 → l.loop.i ≡ 0 = λ z. ⊎_elim (λ w. omega (arith, w)) (λ w. absurd (w.left z)) c.if6.branch in (
-      passed_more _ _ _ l.loop.invariant.0 e.before.before.loop-test.true e.if1.false,
-      rw (← (other e).same) (digits_more _ _ _ l.loop.invariant.1 (other e).inside (next-digit d.before) d.if5.false first),
-      l.loop.invariant.2,
+    let first : c.loop-i.number ≡ 0 → c.loop-i.i ≡ 0 = λ z. elim c.if-number-eq0.branch [ then-number-eq0+else-i-gt0 w ↦ omega arith | else-number-eq0 w ↦ omega arith ] in (
+      passed_more _ _ _ c.loop-i.invariant.0 c.loop-i-test.true c.if-byte-end.false,
+      rw (← (other c.before.before.before.before).same) (digits_more _ _ _ c.loop-i.invariant.1 (other c.before.before.before.before).inside (next-digit c.before.before) c.if-i-ge-VALUE_DIGITS.false first),
+      c.loop-i.invariant.2,
     )
 
-returns-7 : tie.Need-returns-7 invariant-loop decreases-loop
+returns-7 : tie.Need-returns invariant-loop decreases-loop
 returns-7 c =
-    let l = c.before in
-    not_ended_lem _ _ _ _ _ l.loop.invariant.2 (hasnt_of _ _ (omega (arith, missed_count _ _ _ l.loop.invariant.0 c.loop-test.false, c.loop-test.false)))
+    not_ended_lem _ _ _ _ _ c.loop-i.invariant.2 (hasnt_of _ _ (omega (arith, missed_count _ _ _ c.loop-i.invariant.0 c.loop-i-test.false, c.loop-i-test.false)))
 
 pub value_up_to_spec : {M : Type 1} → statement M
 value_up_to_spec =

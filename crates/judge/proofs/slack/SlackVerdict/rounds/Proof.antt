@@ -4,13 +4,13 @@ use borrow.Author.Rules.{rules}
 use Rattle.judge.proofs.slack.SlackVerdict.rounds.Statement.{statement}
 use Rattle.judge.proofs.slack.SlackVerdict.rounds.Tie as tie
 
-returns : tie.Need-returns
+returns : tie.Need-returns-in-Judged
 unfolding slack_values_of refused_by_slack
-returns c = rw c.before.self.given.1
+returns c = rw c.in-Judged.is
 
-returns-2 : tie.Need-returns-2
+returns-2 : tie.Need-returns-in-Refused
 unfolding slack_values_of refused_by_slack
-returns-2 c = rw c.enum_told.given.1
+returns-2 c = rw c.in-Refused.is
 
 pub rounds_spec : {M : Type 1} → statement M
 rounds_spec = tie.close

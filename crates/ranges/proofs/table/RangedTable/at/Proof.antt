@@ -13,31 +13,29 @@ use Rattle.ranges.specs.Ranges.{zero_ranged_task, corner_task, corner_table}
 use Rattle.ranges.proofs.table.RangedTable.at.Statement.{statement}
 use Rattle.ranges.proofs.table.RangedTable.at.Tie as tie
 
-abbrev invariant-loop : tie.invariant-loop
+abbrev invariant-loop : tie.invariant-loop-i
 invariant-loop corner self table₀ i₀ table i =
     (i ≤ max_tasks)
     × (table.count ≡ self.count)
     × (table.tasks ≡ replaced i (λ j. corner_task corner (get_or self.tasks j zero_ranged_task)) empty_table.tasks)
 
-abbrev decreases-loop : tie.decreases-loop
+abbrev decreases-loop : tie.decreases-loop-i
 decreases-loop corner self table₀ i₀ table i = max_tasks - i
 
-loop-holds : tie.Need-loop-init invariant-loop decreases-loop
+loop-holds : tie.Need-loop-i-init invariant-loop decreases-loop
 unfolding replaced
-loop-holds c = (omega arith, refl, ap (λ (t : Table). t.tasks) c.empty.ensures)
+loop-holds c = (omega arith, refl, ap (λ (t : Table). t.tasks) c.empty-table.ensures)
 
-loop-again : tie.Need-loop-preserved invariant-loop decreases-loop
+loop-again : tie.Need-loop-i-preserved invariant-loop decreases-loop
 unfolding zero_ranged_task
 loop-again c =
-    let l = c.before.before.before in
-    (omega arith, l.loop.invariant.1, replaced_more _ _ _ l.loop.invariant.2 c.at.ensures)
+    (omega arith, c.loop-i.invariant.1, replaced_more _ _ _ c.loop-i.invariant.2 c.at.ensures)
 
 returns : tie.Need-returns invariant-loop decreases-loop
 unfolding corner_table
 returns c =
-    let l = c.before in
-    let whole : l.loop.i ≡ max_tasks = omega (arith, l.loop.invariant.0, c.loop-test.false) in
-    rw (← l.loop.invariant.1, ← whole, ← l.loop.invariant.2)
+    let whole : c.loop-i.i ≡ max_tasks = omega (arith, c.loop-i.invariant.0, c.loop-i-test.false) in
+    rw (← c.loop-i.invariant.1, ← whole, ← c.loop-i.invariant.2)
 
 pub at_spec : {M : Type 1} → statement M
 at_spec =

@@ -9,4 +9,5 @@ unfolding empty_ranges zero_ranged_task
 returns c = refl
 
 pub empty_spec : {M : Type 1} → statement M
-empty_spec = tie.close (tie.spec returns)
+empty_spec = tie.close (tie.spec
+    returns)

@@ -9,4 +9,5 @@ unfolding in_order
 returns c = refl
 
 pub in_order_spec : {M : Type 1} → statement M
-in_order_spec = tie.close (tie.spec returns)
+in_order_spec = tie.close (tie.spec
+    returns)

@@ -30,27 +30,22 @@ module _ (r : RangedTask) (place : ℕ) where
       unfolding task_checked
       none_out c = rw (p, b, c)
 
-returns : tie.Need-returns
-returns c = period-out _ _ (was_false c.before.in_order.ensures c.if1.taken)
+returns : tie.Need-returns-then-not-in_order
+returns c = period-out _ _ (was_false c.in_order.ensures c.if-not-in_order.true-raw)
 
-returns-2 : tie.Need-returns-2
+returns-2 : tie.Need-returns-then-not-in_order-2
 returns-2 c =
-    let d = c.before.before in
-    budget-out _ _ (was_true d.before.in_order.ensures d.if1.left) (was_false c.before.in-order2.ensures c.if2.taken)
+    budget-out _ _ (was_true c.in_order.ensures c.if-not-in_order.false-raw) (was_false c.in_order-2.ensures c.if-not-in_order-2.true-raw)
 
-returns-3 : tie.Need-returns-3
+returns-3 : tie.Need-returns-then-not-corners_in_range
 returns-3 c =
-    let e = c.before.before in
-    let d = e.before.before in
-    corner-out _ _ (was_true d.before.in_order.ensures d.if1.left) (was_true e.before.in-order2.ensures e.if2.left)
-    (was_false c.before.corners-in-range.ensures c.if3.taken)
+    corner-out _ _ (was_true c.in_order.ensures c.if-not-in_order.false-raw) (was_true c.in_order-2.ensures c.if-not-in_order-2.false-raw)
+    (was_false c.corners_in_range.ensures c.if-not-corners_in_range.true-raw)
 
-returns-4 : tie.Need-returns-4
+returns-4 : tie.Need-returns
 returns-4 c =
-    let e = c.before.before in
-    let d = e.before.before in
-    none_out _ _ (was_true d.before.in_order.ensures d.if1.left) (was_true e.before.in-order2.ensures e.if2.left)
-    (was_true c.before.corners-in-range.ensures c.if3.left)
+    none_out _ _ (was_true c.in_order.ensures c.if-not-in_order.false-raw) (was_true c.in_order-2.ensures c.if-not-in_order-2.false-raw)
+    (was_true c.corners_in_range.ensures c.if-not-corners_in_range.false-raw)
 
 pub check_spec : {M : Type 1} → statement M
 check_spec =

@@ -19,17 +19,14 @@ dearest-in : (r : RangedTask) (b : Bool) → in_range (corner_task Dearest r) �
 unfolding corners_in_range
 dearest-in r b e cheapest = rw e cheapest
 
-returns : tie.Need-returns
+returns : tie.Need-returns-then-not-in_range
 returns c =
-    let d = c.before in
-    dearest-out _ (was_false (d.in_range_lem.ensures ∙ ap in_range d.before.at.ensures) c.if1.taken)
+    dearest-out _ (was_false (c.in_range.ensures ∙ ap in_range c.at-dearest.ensures) c.if-not-in_range.true-raw)
 
-returns-2 : tie.Need-returns-2
+returns-2 : tie.Need-returns
 returns-2 c =
-    let e = c.before in
-    let d = e.before.before in
-    dearest-in _ _ (was_true (d.in_range_lem.ensures ∙ ap in_range d.before.at.ensures) e.before.if1.left)
-    (c.in-range2.ensures ∙ ap in_range e.at2.ensures)
+    dearest-in _ _ (was_true (c.in_range.ensures ∙ ap in_range c.at-dearest.ensures) c.if-not-in_range.false-raw)
+    (c.in_range-2.ensures ∙ ap in_range c.at-cheapest.ensures)
 
 pub corners_in_range_spec : {M : Type 1} → statement M
 corners_in_range_spec =
