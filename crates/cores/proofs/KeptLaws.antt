@@ -2,7 +2,7 @@
 -- of runners that have none, with `without_set`; and `kept_count`, that the cores kept and the runners without one are no more than the runners. Of
 -- lists: `is_distinct` with `distinct_more`, and `AllInside`.
 use Prim.Native.Nat.{ℕ, ◌+◌, ◌≤◌, ◌<◌}
-use mathlib.Core.Path.{◌≡◌, refl, sym, ◌∙◌}
+use mathlib.Core.Path.{◌≡◌, refl, sym, ap, ◌∙◌}
 use mathlib.Core.List.{List, [], ◌∷◌, ◌++◌}
 use mathlib.Core.Bool.{Bool, true, false, cond, not, ◌&&◌, or-true}
 use native.Mathlib.Omega.{arith}
@@ -56,6 +56,27 @@ rest_inside : (x : ℕ) (l : List ℕ) → AllInside (x ∷ l) → AllInside l
 unfolding is_among
 rest_inside x l all = record { inside = λ i e. all.inside i (rw (e, or-true)) }
 
+-- one more task, with the core c
+count_more :
+    (before l : List ℕ) (i c : ℕ)
+    → get_or before i 0 ≡ 0
+    → i < length before
+    → some_count before + without before l ≤ length l
+    → some_count (set before i c) + without (set before i c) (i ∷ l) ≤ length (i ∷ l)
+unfolding without
+count_more before l i c none inside rest =
+    by_equal c 0
+    (λ z.
+    let same : set before i c ≡ before = rw (z, ← none) (set-get_or before i 0) in
+    let now : get_or (set before i c) i 0 ≡ 0 = ap (λ entries. get_or entries i 0) same ∙ none in
+    let count : some_count (set before i c) ≡ some_count before = ap some_count same in
+    let others : without (set before i c) l ≡ without before l = ap (λ entries. without entries l) same in
+    rw (eq-eqb _ 0 now) (omega (arith, rest, count, others)))
+    (λ ne.
+    let now : get_or (set before i c) i 0 ≡ c = get_or-set_same before i c 0 inside in
+    rw (now, ne_eqb c 0 ne)
+    (omega (arith, rest, some_set before i c inside none (omega arith), without_set before i c l none)))
+
 module _ (recorded : List ℕ) (k : ℕ) where
   pub length_kept : (l : List ℕ) → length (kept recorded k l) ≡ max_tasks
   unfolding kept
@@ -94,19 +115,10 @@ module _ (recorded : List ℕ) (k : ℕ) where
       (λ f. let e : get_or (kept recorded k l) i 0 ≡ 0 = kept_at l i h ∙ rw f in absurd (omega arith))
 
   pub kept_count : (l : List ℕ) → is_distinct l ≡ true → AllInside l → some_count (kept recorded k l) + without (kept recorded k l) l ≤ length l
-  unfolding kept without is_distinct
+  unfolding kept is_distinct without
   kept_count [] d all = omega (arith, none_some max_tasks)
   kept_count (i ∷ l) d all =
-      let before : List ℕ = kept recorded k l in
-      let c : ℕ = kept_core (get_or recorded i 0) k in
       let h : i < max_tasks = all.inside i (among_at (i ∷ l) 0 i (omega arith) refl) in
-      let none : get_or before i 0 ≡ 0 = kept_at l i h ∙ rw (not-true (is_among l i) (and_left _ _ d)) in
+      let none : get_or (kept recorded k l) i 0 ≡ 0 = kept_at l i h ∙ rw (not-true (is_among l i) (and_left _ _ d)) in
       let rest = kept_count l (and_right (not (is_among l i)) _ d) (rest_inside i l all) in
-      by_equal c 0
-      (λ z.
-      let same : set before i c ≡ before = rw (z, ← none) (set-get_or before i 0) in
-      rw (same, eq-eqb _ 0 none) (omega (arith, rest)))
-      (λ ne.
-      let now : get_or (set before i c) i 0 ≡ c = get_or-set_same before i c 0 (omega (arith, length_kept l)) in
-      rw (now, ne_eqb c 0 ne)
-      (omega (arith, rest, some_set before i c (omega (arith, length_kept l)) none (omega arith), without_set before i c l none)))
+      count_more (kept recorded k l) l i (kept_core (get_or recorded i 0) k) none (omega (arith, length_kept l)) rest

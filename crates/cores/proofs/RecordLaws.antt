@@ -52,24 +52,20 @@ stands_nowhere (y ∷ l) x (suc j) none some e =
     (λ t. let (i, inside, is) = among_index l x t in not_both (is_among (y ∷ l) x) (among_at (y ∷ l) (suc i) x (omega arith) is) none)
     (λ f. stands_nowhere l x j f some e)
 
+more_apart : (x : ℕ) (l : List ℕ) → First x l → Apart l → (i j : ℕ) → get_or (x ∷ l) i 0 ≡ get_or (x ∷ l) j 0 → 1 ≤ get_or (x ∷ l) i 0 → i ≡ j
+more_apart x l f r zero zero same some = refl
+more_apart x l f r zero (suc j) same some = stands_nowhere l x j (f.alone some) some same
+more_apart x l f r (suc i) zero same some = stands_nowhere l x i (f.alone (omega arith)) (omega arith) (sym same)
+more_apart x l f r (suc i) (suc j) same some = let e : i ≡ j = r.apart i j same some in rw e
+
 pub sound_apart : (l : List ℕ) → cores_sound l ≡ true → Apart l
 sound_apart [] e = record { within = λ i. omega arith; apart = λ i j same some. absurd (omega arith) }
 sound_apart (x ∷ l) e =
     let f = first_sound x l e in
     let r = sound_apart l f.rest in
     record {
-      within = λ i. elim i [ zero ↦ f.small | suc i' ↦ r.within i' ];
-      apart = λ i j.
-          elim i [
-            | zero ↦ elim j [
-              | zero ↦ λ same some. refl
-              | suc j' ↦ λ same some. stands_nowhere l x j' (f.alone some) some same
-            ]
-            | suc i' ↦ elim j [
-              | zero ↦ λ same some. stands_nowhere l x i' (f.alone (omega arith)) (omega arith) (sym same)
-              | suc j' ↦ λ same some. let e : i' ≡ j' = r.apart i' j' same some in rw e
-            ]
-          ];
+      within = λ i. elim i as (λ i. get_or (x ∷ l) i 0 ≤ max_cores) [ zero ↦ f.small | suc i' ↦ r.within i' ];
+      apart = λ i j. more_apart x l f r i j;
     }
 
 pub apart_same : (l l' : List ℕ) → Apart l → ((i : ℕ) → 1 ≤ get_or l' i 0 → get_or l' i 0 ≡ get_or l i 0) → Apart l'

@@ -5,7 +5,7 @@ ghost use Rattle.job.specs.Job.{fresh_job, need_in_range, released_job, closed_j
 use tasks::task::Task;
 
 // One task's job: whether it is open, the slots to its deadline, the slots still owed, and the slots until the next release is allowed.
-#[derive(Drop)]
+#[derive(Clone, Copy)]
 pub struct Job {
     pub open: bool,
     pub left: u32,

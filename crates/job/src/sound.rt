@@ -7,6 +7,7 @@ use tasks::task::Task;
 
 impl Job {
     // Whether the record is one that a job of the task can have. The gap of an open one reaches to its deadline.
+    #[tactic(auto, unfolding(crate::specs::Sound::job_sound, crate::specs::Sound::gap_covers_left))]
     pub fn is_sound(self, task: Task) -> bool
         ensures { result ≡ job_sound task self }
     {
@@ -39,6 +40,7 @@ impl Job {
     }
 
     // A closed one has none of either.
+    #[tactic(auto, unfolding(crate::specs::Sound::closed_sound))]
     fn closed_sound(self) -> bool
         ensures { result ≡ closed_sound self }
     {

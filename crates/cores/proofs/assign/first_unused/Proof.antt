@@ -11,38 +11,35 @@ use Rattle.cores.proofs.UnusedLaws.{first_is_lem, none_unused}
 use Rattle.cores.proofs.assign.first_unused.Statement.{statement}
 use Rattle.cores.proofs.assign.first_unused.Tie as tie
 
-abbrev invariant-loop : tie.invariant-loop
+abbrev invariant-loop : tie.invariant-loop-core
 invariant-loop available used core₀ core = (1 ≤ core) × (core ≤ max_tasks + 1) × ((c : ℕ) → 1 ≤ c → c < core → get_or used c false ≡ true)
 
-abbrev decreases-loop : tie.decreases-loop
+abbrev decreases-loop : tie.decreases-loop-core
 decreases-loop available used core₀ core = max_tasks + 1 - core
 
-loop-holds : tie.Need-loop-init invariant-loop decreases-loop
+loop-holds : tie.Need-loop-core-init invariant-loop decreases-loop
 loop-holds c = (omega arith, omega arith, λ x some below. absurd (omega arith))
 
-returns : tie.Need-returns invariant-loop decreases-loop
+returns : tie.Need-returns-then-available-core invariant-loop decreases-loop
 returns c =
-    let l = c.before.before in
-    sym (none_unused _ 1 _ (λ x some below. l.loop.invariant.2 x some (omega (arith, c.if1.true))))
+    sym (none_unused _ 1 _ (λ x some below. c.loop-core.invariant.2 x some (omega (arith, c.if-available-core.true))))
 
-returns-2 : tie.Need-returns-2 invariant-loop decreases-loop
+returns-2 : tie.Need-returns-then-not-used-core invariant-loop decreases-loop
 returns-2 c =
-    let l = c.before.before.before in
-    sym (first_is_lem _ 1 _ _ l.loop.invariant.2 l.loop.invariant.0 (omega (arith, c.before.if1.false, c.before.before.loop-test.true)) (not-true _ c.if2.true))
+    sym (first_is_lem _ 1 _ _ c.loop-core.invariant.2 c.loop-core.invariant.0 (omega (arith, c.if-available-core.false, c.loop-core-test.true)) (not-true _ c.if-not-used-core.true-raw))
 
-loop-again : tie.Need-loop-preserved invariant-loop decreases-loop
-loop-again c =
-    let l = c.before.before.before in (
-      omega arith,
-      omega arith,
-      λ x some below.
-          by_equal x l.loop.core
-          (λ e. rw e (not-false _ c.if2.false))
-          (λ ne. l.loop.invariant.2 x some (omega arith)),
-    )
+loop-again : tie.Need-loop-core-preserved invariant-loop decreases-loop
+loop-again c = (
+  omega arith,
+  omega arith,
+  λ x some below.
+      by_equal x c.loop-core.core
+      (λ e. rw e (not-false _ c.if-not-used-core.false-raw))
+      (λ ne. c.loop-core.invariant.2 x some (omega arith)),
+)
 
-returns-3 : tie.Need-returns-3 invariant-loop decreases-loop
-returns-3 c = sym (none_unused _ 1 _ (λ x some below. c.before.loop.invariant.2 x some (omega (arith, c.loop-test.false))))
+returns-3 : tie.Need-returns invariant-loop decreases-loop
+returns-3 c = sym (none_unused _ 1 _ (λ x some below. c.loop-core.invariant.2 x some (omega (arith, c.loop-core-test.false))))
 
 pub first_unused_spec : {M : Type 1} → statement M
 first_unused_spec =

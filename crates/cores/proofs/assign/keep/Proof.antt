@@ -7,64 +7,56 @@ use Rattle.cores.proofs.Keeping.{Keeping, keeping_length, keeping_none, keeping_
 use Rattle.cores.proofs.assign.keep.Statement.{statement}
 use Rattle.cores.proofs.assign.keep.Tie as tie
 
-abbrev invariant-loop : tie.invariant-loop
+abbrev invariant-loop : tie.invariant-loop-n
 invariant-loop runners available cores₀ used₀ recorded n₀ assigned used n = Keeping recorded available runners assigned used n
 
-abbrev decreases-loop : tie.decreases-loop
+abbrev decreases-loop : tie.decreases-loop-n
 decreases-loop runners available cores₀ used₀ recorded n₀ assigned used n = n
 
-loop-holds : tie.Need-loop-init invariant-loop decreases-loop
+loop-holds : tie.Need-loop-n-init invariant-loop decreases-loop
 loop-holds c =
-    let s = c.before.before.before in
-    rw (s.requires.0, s.requires.1) (keeping_none _ _ _)
+    rw (c.requires.0, c.requires.1) (keeping_none _ _ _)
 
-mul-i : tie.Need-overflow-mul-i invariant-loop decreases-loop
-mul-i c = omega (arith, c.before.loop.invariant.within, c.before.before.before.before.before.well-formed)
+mul-i : tie.Need-offset_bounds-runners-n invariant-loop decreases-loop
+mul-i c = omega (arith, c.loop-n.invariant.within, c.well_formed)
 
-shared-slice-read-i : tie.Need-shared-slice-read-i invariant-loop decreases-loop
-shared-slice-read-i c = omega (arith, c.before.before.loop.invariant.within, c.before.loop-test.true)
+shared-slice-read-i : tie.Need-bounds-runners-n invariant-loop decreases-loop
+shared-slice-read-i c = omega (arith, c.loop-n.invariant.within, c.loop-n-test.true)
 
-mul-cores : tie.Need-overflow-mul-cores invariant-loop decreases-loop
-mul-cores c = omega (arith, c.before.if1.true)
+mul-cores : tie.Need-offset_bounds-cores-i invariant-loop decreases-loop
+mul-cores c = omega (arith, c.if-i-lt-MAX_TASKS.true)
 
-slice-write-cores : tie.Need-slice-write-cores invariant-loop decreases-loop
-slice-write-cores c = omega (arith, c.before.if1.true, keeping_length c.before.before.before.before.loop.invariant)
+slice-write-cores : tie.Need-bounds-cores-i invariant-loop decreases-loop
+slice-write-cores c = omega (arith, c.if-i-lt-MAX_TASKS.true, keeping_length c.loop-n.invariant)
 
-slice-write-used : tie.Need-slice-write-used invariant-loop decreases-loop
-slice-write-used c = omega (arith, c.if2.true, c.before.before.before.before.before.loop.invariant.flagged.all_flags)
+slice-write-used : tie.Need-bounds-used-core invariant-loop decreases-loop
+slice-write-used c = omega (arith, c.if-core-lt-USED_FLAGS.true, c.loop-n.invariant.flagged.all_flags)
 
-loop-again : tie.Need-loop-preserved invariant-loop decreases-loop
+loop-again : tie.Need-loop-n-preserved-then-core-lt-USED_FLAGS invariant-loop decreases-loop
 loop-again c =
-    let k = c.before in
-    let t = k.before.before.before in
-    rw k.kept-core.ensures
-    (keeping_more _ _ _ _ _ _ t.before.loop.invariant t.loop-test.true k.before.if1.true (omega (arith, c.if2.true, k.kept-core.ensures)))
+    rw c.kept_core-core.ensures
+    (keeping_more _ _ _ _ _ _ c.loop-n.invariant c.loop-n-test.true c.if-i-lt-MAX_TASKS.true (omega (arith, c.if-core-lt-USED_FLAGS.true, c.kept_core-core.ensures)))
 
-loop-again-2 : tie.Need-loop-preserved-2 invariant-loop decreases-loop
+loop-again-2 : tie.Need-loop-n-preserved-else-core-lt-USED_FLAGS invariant-loop decreases-loop
 loop-again-2 c =
-    let k = c.before in
-    let t = k.before.before.before in
-    rw k.kept-core.ensures
-    (keeping_large _ _ _ _ _ _ t.before.loop.invariant t.loop-test.true k.before.if1.true (omega (arith, c.if2.false, k.kept-core.ensures)))
+    rw c.kept_core-core.ensures
+    (keeping_large _ _ _ _ _ _ c.loop-n.invariant c.loop-n-test.true c.if-i-lt-MAX_TASKS.true (omega (arith, c.if-core-lt-USED_FLAGS.false, c.kept_core-core.ensures)))
 
-loop-again-3 : tie.Need-loop-preserved-3 invariant-loop decreases-loop
+loop-again-3 : tie.Need-loop-n-preserved invariant-loop decreases-loop
 loop-again-3 c =
-    let t = c.before.before in
-    keeping_far _ _ _ _ _ _ t.before.loop.invariant t.loop-test.true (omega (arith, c.if1.false))
+    keeping_far _ _ _ _ _ _ c.loop-n.invariant c.loop-n-test.true (omega (arith, c.if-i-lt-MAX_TASKS.false))
 
-same_length : tie.Need-same-length invariant-loop decreases-loop
+same_length : tie.Need-shape_of-cores invariant-loop decreases-loop
 same_length c =
-    let l = c.before in
-    keeping_length l.loop.invariant ∙ sym (ap length l.before.before.before.before.requires.0)
+    keeping_length c.loop-n.invariant ∙ sym (ap length c.requires.0)
 
-same-length-2 : tie.Need-same-length-2 invariant-loop decreases-loop
+same-length-2 : tie.Need-shape_of-used invariant-loop decreases-loop
 same-length-2 c =
-    let l = c.before in
-    l.loop.invariant.flagged.all_flags ∙ sym (ap length l.before.before.before.before.requires.1)
+    c.loop-n.invariant.flagged.all_flags ∙ sym (ap length c.requires.1)
 
 returns : tie.Need-returns invariant-loop decreases-loop
 returns c =
-    let l = c.before.loop in
+    let l = c.loop-n in
     let e : l.n ≡ 0 = omega arith in
     record { are = rw e at l.invariant.are; flagged = l.invariant.flagged }
 

@@ -5,66 +5,62 @@ use Rattle.cores.proofs.Seen.{Seen, seen_none, seen_0, seen_more, too_large, see
 use Rattle.cores.proofs.record.cores_sound.Statement.{statement}
 use Rattle.cores.proofs.record.cores_sound.Tie as tie
 
-abbrev invariant-loop : tie.invariant-loop
+abbrev invariant-loop : tie.invariant-loop-n
 invariant-loop recorded seen₀ n₀ seen n = Seen recorded seen n
 
-abbrev decreases-loop : tie.decreases-loop
+abbrev decreases-loop : tie.decreases-loop-n
 decreases-loop recorded seen₀ n₀ seen n = n
 
-loop-holds : tie.Need-loop-init invariant-loop decreases-loop
+loop-holds : tie.Need-loop-n-init invariant-loop decreases-loop
 loop-holds c = seen_none _
 
-sub-n : tie.Need-overflow-sub-n invariant-loop decreases-loop
+sub-n : tie.Need-overflow_sub-n invariant-loop decreases-loop
 sub-n c = omega arith
 
-mul-core : tie.Need-overflow-mul-core invariant-loop decreases-loop
-mul-core c = omega (arith, c.before.loop.invariant.within, c.before.before.well-formed)
+mul-core : tie.Need-offset_bounds-recorded-n invariant-loop decreases-loop
+mul-core c = omega (arith, c.loop-n.invariant.within, c.well_formed)
 
-shared-slice-read-core : tie.Need-shared-slice-read-core invariant-loop decreases-loop
-shared-slice-read-core c = omega (arith, c.before.before.loop.invariant.within, c.before.loop-test.true)
+shared-slice-read-core : tie.Need-bounds-recorded-n invariant-loop decreases-loop
+shared-slice-read-core c = omega (arith, c.loop-n.invariant.within, c.loop-n-test.true)
 
-returns : tie.Need-returns invariant-loop decreases-loop
+returns : tie.Need-returns-then-core-gt-MAX_CORES invariant-loop decreases-loop
 returns c =
-    let t = c.before.before in
-    sym (too_large _ _ _ t.before.loop.invariant t.loop-test.true c.if1.true)
+    sym (too_large _ _ _ c.loop-n.invariant c.loop-n-test.true c.if-core-gt-MAX_CORES.true)
 
-cast-if3 : tie.Need-overflow-cast-if3 invariant-loop decreases-loop
-cast-if3 c = omega (arith, c.before.if1.false)
+cast-if3 : tie.Need-overflow_cast-core invariant-loop decreases-loop
+cast-if3 c = omega (arith, c.if-core-gt-MAX_CORES.false)
 
-array-read-if3 : tie.Need-array-read-if3 invariant-loop decreases-loop
-array-read-if3 c = omega (arith, c.before.if1.false)
+array-read-if3 : tie.Need-bounds-seen-core invariant-loop decreases-loop
+array-read-if3 c = omega (arith, c.if-core-gt-MAX_CORES.false)
 
-returns-2 : tie.Need-returns-2 invariant-loop decreases-loop
+returns-2 : tie.Need-returns-then-seen-core invariant-loop decreases-loop
 returns-2 c =
-    let t = c.before.before.before.before in
-    sym (seen_twice _ _ _ t.before.loop.invariant t.loop-test.true (omega (arith, c.before.before.if1.false)) (omega (arith, c.before.if2.true)) c.if3.true)
+    sym (seen_twice _ _ _ c.loop-n.invariant c.loop-n-test.true (omega (arith, c.if-core-gt-MAX_CORES.false)) (omega (arith, c.if-core-ne0.true)) c.if-seen-core.true)
 
-cast-seen : tie.Need-overflow-cast-seen invariant-loop decreases-loop
-cast-seen c = omega (arith, c.before.before.if1.false)
+cast-seen : tie.Need-overflow_cast-seen invariant-loop decreases-loop
+cast-seen c = omega (arith, c.if-core-gt-MAX_CORES.false)
 
-array-write-seen : tie.Need-array-write-seen invariant-loop decreases-loop
-array-write-seen c = omega (arith, c.before.before.if1.false)
+array-write-seen : tie.Need-bounds-seen-core-then-core-ne0 invariant-loop decreases-loop
+array-write-seen c = omega (arith, c.if-core-gt-MAX_CORES.false)
 
-loop-less : tie.Need-loop-smaller invariant-loop decreases-loop
+loop-less : tie.Need-loop-n-smaller-then-core-ne0 invariant-loop decreases-loop
 loop-less c = omega arith
 
-loop-again : tie.Need-loop-preserved invariant-loop decreases-loop
+loop-again : tie.Need-loop-n-preserved-then-core-ne0 invariant-loop decreases-loop
 loop-again c =
-    let t = c.before.before.before.before in
-    seen_more _ _ _ t.before.loop.invariant t.loop-test.true (omega (arith, c.before.before.if1.false)) (omega (arith, c.before.if2.true)) c.if3.false
+    seen_more _ _ _ c.loop-n.invariant c.loop-n-test.true (omega (arith, c.if-core-gt-MAX_CORES.false)) (omega (arith, c.if-core-ne0.true)) c.if-seen-core.false
 
-loop-less-2 : tie.Need-loop-smaller-2 invariant-loop decreases-loop
+loop-less-2 : tie.Need-loop-n-smaller invariant-loop decreases-loop
 loop-less-2 c = omega arith
 
-loop-again-2 : tie.Need-loop-preserved-2 invariant-loop decreases-loop
+loop-again-2 : tie.Need-loop-n-preserved invariant-loop decreases-loop
 loop-again-2 c =
-    let t = c.before.before.before in
-    seen_0 _ _ _ t.before.loop.invariant t.loop-test.true (omega (arith, c.before.if1.false)) (omega (arith, c.if2.false))
+    seen_0 _ _ _ c.loop-n.invariant c.loop-n-test.true (omega (arith, c.if-core-gt-MAX_CORES.false)) (omega (arith, c.if-core-ne0.false))
 
-returns-3 : tie.Need-returns-3 invariant-loop decreases-loop
+returns-3 : tie.Need-returns invariant-loop decreases-loop
 returns-3 c =
-    let e : c.before.loop.n ≡ 0 = omega arith in
-    sym (rw e at c.before.loop.invariant.rest_sound)
+    let e : c.loop-n.n ≡ 0 = omega arith in
+    sym (rw e at c.loop-n.invariant.rest_sound)
 
 pub cores_sound_spec : {M : Type 1} → statement M
 cores_sound_spec =

@@ -9,4 +9,5 @@ unfolding fresh_job
 returns c = refl
 
 pub fresh_job_spec : {M : Type 1} → statement M
-fresh_job_spec = tie.close (tie.spec returns)
+fresh_job_spec = tie.close (tie.spec
+    returns)

@@ -5,13 +5,15 @@ use Rattle.job.specs.Job.{need_in_range}
 use Rattle.job.proofs.job.need_in_range.Statement.{statement}
 use Rattle.job.proofs.job.need_in_range.Tie as tie
 
-returns : tie.Need-returns
+returns : tie.Need-returns-then-need-lt1
 unfolding need_in_range
-returns c = rw (lt-leb 1 c.before.args.need (omega (arith, c.if1.true)))
+returns c = rw (lt-leb 1 c.args.need (omega (arith, c.if-need-lt1.true)))
 
-returns-2 : tie.Need-returns-2
+returns-2 : tie.Need-returns
 unfolding need_in_range
-returns-2 c = let e = c.before in rw (le-leb 1 e.before.args.need (omega (arith, e.if1.false)))
+returns-2 c = rw (le-leb 1 c.args.need (omega (arith, c.if-need-lt1.false)))
 
 pub need_in_range_spec : {M : Type 1} → statement M
-need_in_range_spec = tie.close (tie.spec returns returns-2)
+need_in_range_spec = tie.close (tie.spec
+    returns
+    returns-2)

@@ -27,48 +27,35 @@ decreases-candidates ranks candidate₀ candidate = length ranks - candidate
 candidates-holds : tie.Need-candidates-init invariant-rivals decreases-rivals invariant-candidates decreases-candidates
 candidates-holds c = (omega arith, reached_start)
 
-candidates-again : tie.Need-candidates-preserved invariant-rivals decreases-rivals invariant-candidates decreases-candidates
+candidates-again : tie.Need-candidates-preserved-then-not-waits invariant-rivals decreases-rivals invariant-candidates decreases-candidates
 candidates-again c =
-    let w = c.before in
-    let l = w.before.before.before in
-    (omega arith, reached_idle l.candidates.invariant.1 (was_false w.waits.ensures c.if1.true))
+    (omega arith, reached_idle c.candidates.invariant.1 (was_false c.waits.ensures c.if-not-waits.true-raw))
 
 rivals-holds : tie.Need-rivals-init invariant-rivals decreases-rivals invariant-candidates decreases-candidates
 rivals-holds c =
-    let w = c.before in
-    let l = w.before.before.before in
-    (refl, omega arith, reached_waiting l.candidates.invariant.1 (was_true w.waits.ensures c.if1.false))
+    (refl, omega arith, reached_waiting c.candidates.invariant.1 (was_true c.waits.ensures c.if-not-waits.false-raw))
 
-rivals-again : tie.Need-rivals-preserved invariant-rivals decreases-rivals invariant-candidates decreases-candidates
+rivals-again : tie.Need-rivals-preserved-then-not-waits-2 invariant-rivals decreases-rivals invariant-candidates decreases-candidates
 rivals-again c =
-    let w = c.before in
-    let l = w.before.before.before in
-    (l.rivals.invariant.0, omega arith, least_past_idle l.rivals.invariant.2 (was_false w.waits2.ensures c.if2.true))
+    (c.rivals.invariant.0, omega arith, least_past_idle c.rivals.invariant.2 (was_false c.waits-in-rivals.ensures c.if-not-waits-2.true-raw))
 
-candidates-again-2 : tie.Need-candidates-preserved-2 invariant-rivals decreases-rivals invariant-candidates decreases-candidates
+candidates-again-2 : tie.Need-candidates-preserved invariant-rivals decreases-rivals invariant-candidates decreases-candidates
 candidates-again-2 c =
-    let p = c.before in
-    let t = p.before.before.before.before.before.before in
-    (omega arith, reached_rival t.before.rivals.invariant.2 t.rivals-test.true (sym p.precedes.ensures ∙ c.if3.true))
+    (omega arith, reached_rival c.rivals.invariant.2 c.rivals-test.true (sym c.precedes.ensures ∙ c.if-precedes.true))
 
-rivals-again-2 : tie.Need-rivals-preserved-2 invariant-rivals decreases-rivals invariant-candidates decreases-candidates
+rivals-again-2 : tie.Need-rivals-preserved invariant-rivals decreases-rivals invariant-candidates decreases-candidates
 rivals-again-2 c =
-    let p = c.before in
-    let l = p.before.before.before.before.before.before.before in
-    (l.rivals.invariant.0, omega arith, least_stays l.rivals.invariant.2 (sym p.precedes.ensures ∙ c.if3.false))
+    (c.rivals.invariant.0, omega arith, least_stays c.rivals.invariant.2 (sym c.precedes.ensures ∙ c.if-precedes.false))
 
-returns : tie.Need-returns invariant-rivals decreases-rivals invariant-candidates decreases-candidates
+returns : tie.Need-returns-in-candidates invariant-rivals decreases-rivals invariant-candidates decreases-candidates
 returns c =
-    let l = c.before in
-    let s = l.before.before.before.before.before.before.before in
-    let e : l.rivals.rival ≡ length s.args.ranks.now = omega arith in
-    rw (add-one l.rivals.candidate) (sym (least_is_next _ _ (rw e at l.rivals.invariant.2)))
+    let e : c.rivals.rival ≡ length c.args.ranks.now = omega arith in
+    rw (add-one c.rivals.candidate) (sym (least_is_next _ _ (rw e at c.rivals.invariant.2)))
 
-returns-2 : tie.Need-returns-2 invariant-rivals decreases-rivals invariant-candidates decreases-candidates
+returns-2 : tie.Need-returns invariant-rivals decreases-rivals invariant-candidates decreases-candidates
 returns-2 c =
-    let l = c.before in
-    let e : l.candidates.candidate ≡ length l.before.before.args.ranks.now = omega arith in
-    sym (none_is_next _ (rw e at l.candidates.invariant.1))
+    let e : c.candidates.candidate ≡ length c.args.ranks.now = omega arith in
+    sym (none_is_next _ (rw e at c.candidates.invariant.1))
 
 pub next_runner_spec : {M : Type 1} → statement M
 next_runner_spec =

@@ -9,4 +9,5 @@ unfolding waits
 returns c = refl
 
 pub waits_spec : {M : Type 1} → statement M
-waits_spec = tie.close (tie.spec returns)
+waits_spec = tie.close (tie.spec
+    returns)

@@ -4,13 +4,13 @@ use borrow.Author.Rules.{rules}
 use Rattle.job.proofs.job.Job.aged.Statement.{statement}
 use Rattle.job.proofs.job.Job.aged.Tie as tie
 
-returns : tie.Need-returns
+returns : tie.Need-returns-then-self
 unfolding aged
-returns c = rw (c.before.if1.true, c.less-one2.ensures, c.before.before.less_one.ensures)
+returns c = rw (c.if-self.true, c.less_one.ensures, c.less_one-gap.ensures)
 
-returns-2 : tie.Need-returns-2
+returns-2 : tie.Need-returns
 unfolding aged
-returns-2 c = rw (c.if1.false, c.before.less_one.ensures)
+returns-2 c = rw (c.if-self.false, c.less_one-gap.ensures)
 
 pub aged_spec : {M : Type 1} → statement M
 aged_spec = tie.close

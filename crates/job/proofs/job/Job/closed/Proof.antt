@@ -9,4 +9,5 @@ unfolding closed_job
 returns c = refl
 
 pub closed_spec : {M : Type 1} → statement M
-closed_spec = tie.close (tie.spec returns)
+closed_spec = tie.close (tie.spec
+    returns)

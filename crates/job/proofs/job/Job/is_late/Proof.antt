@@ -4,17 +4,20 @@ use Rattle.job.specs.Slot.{is_late}
 use Rattle.job.proofs.job.Job.is_late.Statement.{statement}
 use Rattle.job.proofs.job.Job.is_late.Tie as tie
 
-returns : tie.Need-returns
+returns : tie.Need-returns-then-self-eq0
 unfolding is_late
-returns c = rw (c.before.before.if1.true, eq-eqb _ _ c.if2.true)
+returns c = rw (c.if-self.true, eq-eqb _ _ c.if-self-eq0.true)
 
-returns-2 : tie.Need-returns-2
+returns-2 : tie.Need-returns-then-self
 unfolding is_late
-returns-2 c = rw (c.before.before.before.if1.true, ne_eqb _ _ c.before.if2.false)
+returns-2 c = rw (c.if-self.true, ne_eqb _ _ c.if-self-eq0.false)
 
-returns-3 : tie.Need-returns-3
+returns-3 : tie.Need-returns
 unfolding is_late
-returns-3 c = rw c.if1.false
+returns-3 c = rw c.if-self.false
 
 pub is_late_spec : {M : Type 1} → statement M
-is_late_spec = tie.close (tie.spec returns returns-2 returns-3)
+is_late_spec = tie.close (tie.spec
+    returns
+    returns-2
+    returns-3)

@@ -7,35 +7,32 @@ use borrow.Author.Rules.{rules}
 use Rattle.job.proofs.job.Job.rank.Statement.{statement}
 use Rattle.job.proofs.job.Job.rank.Tie as tie
 
-returns : tie.Need-returns
+returns : tie.Need-returns-then-not-self
 unfolding rank
-returns c = rw (not-true c.before.before.args.self.«open» c.if1.true)
+returns c = rw (not-true c.args.self.«open» c.if-not-self.true)
 
-returns-2 : tie.Need-returns-2
+returns-2 : tie.Need-returns-then-is_urgent
 unfolding rank
 returns-2 c =
-    let e = c.before.before.before in
     rw (
-      c.before.before.alike-rank.ensures,
-      sym c.before.is-urgent.ensures ∙ c.if2.true,
-      not-false e.before.before.args.self.«open» e.if1.false,
+      c.alike_rank-alike.ensures,
+      sym c.is_urgent.ensures ∙ c.if-is_urgent.true,
+      not-false c.args.self.«open» c.if-not-self.false,
     )
 
 -- A rank fits 64 bits, since left and budget have 32.
-rank-fits : tie.Need-overflow-add-result
+rank-fits : tie.Need-overflow_add-result
 unfolding alike_rank
 rank-fits c =
-    let e = c.before.before in
-    omega (arith, e.alike-rank.ensures, e.before.before.struct_known)
+    omega (arith, c.alike_rank-alike.ensures, c.struct_known-1)
 
-returns-3 : tie.Need-returns-3
+returns-3 : tie.Need-returns
 unfolding rank
 returns-3 c =
-    let e = c.before.before.before in
     rw (
-      c.before.before.alike-rank.ensures,
-      sym c.before.is-urgent.ensures ∙ c.if2.false,
-      not-false e.before.before.args.self.«open» e.if1.false,
+      c.alike_rank-alike.ensures,
+      sym c.is_urgent.ensures ∙ c.if-is_urgent.false,
+      not-false c.args.self.«open» c.if-not-self.false,
     )
 
 pub rank_spec : {M : Type 1} → statement M

@@ -9,4 +9,5 @@ unfolding released_job
 returns c = refl
 
 pub released_spec : {M : Type 1} → statement M
-released_spec = tie.close (tie.spec returns)
+released_spec = tie.close (tie.spec
+    returns)

@@ -4,21 +4,19 @@ use borrow.Author.Rules.{rules}
 use Rattle.job.proofs.job.Job.settled.Statement.{statement}
 use Rattle.job.proofs.job.Job.settled.Tie as tie
 
-returns : tie.Need-returns
+returns : tie.Need-returns-then-is_finished
 unfolding settled
-returns c = rw (← c.before.before.is-finished.ensures, c.before.if1.true) c.closed.ensures
+returns c = rw (← c.is_finished.ensures, c.if-is_finished.true) c.closed.ensures
 
-returns-2 : tie.Need-returns-2
+returns-2 : tie.Need-returns-then-is_late
 unfolding settled
 returns-2 c =
-    let d = c.before.before.before in
-    rw (← d.before.is-finished.ensures, d.if1.false, ← c.before.before.is-late.ensures, c.before.if2.true) c.closed2.ensures
+    rw (← c.is_finished.ensures, c.if-is_finished.false, ← c.is_late.ensures, c.if-is_late.true) c.closed-then-is_late.ensures
 
-returns-3 : tie.Need-returns-3
+returns-3 : tie.Need-returns
 unfolding settled
 returns-3 c =
-    let d = c.before.before in
-    rw (← d.before.is-finished.ensures, d.if1.false, ← c.before.is-late.ensures, c.if2.false)
+    rw (← c.is_finished.ensures, c.if-is_finished.false, ← c.is_late.ensures, c.if-is_late.false)
 
 pub settled_spec : {M : Type 1} → statement M
 settled_spec =
