@@ -61,7 +61,7 @@ fourth_ran finished =
           };
     }
 
--- a log made by hand: task 4, which was with_offered, is released with a need of 2, below its budget, and in the three slots to its deadline it runs three times and
+-- a log made by hand: task 4, which was offered, is released with a need of 2, below its budget, and in the three slots to its deadline it runs three times and
 -- finishes with the third; the claim fails of that release
 pub unclosed_refuted :
     (InTime three_tasks

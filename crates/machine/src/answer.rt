@@ -11,7 +11,7 @@ use tasks::table::PerTask;
 
 // What a slot says of each task, how many ran, and the core of each runner, 0 for every other task. Every other call, and a refused slot, says nothing
 // of any task.
-#[derive(Drop)]
+#[derive(Clone, Copy)]
 pub struct Report {
     pub ran: Flags,
     pub finished: Flags,
@@ -21,7 +21,7 @@ pub struct Report {
 }
 
 // The machine after the call, whether the call was carried out, and a slot's report.
-#[derive(Drop)]
+#[derive(Clone, Copy)]
 pub struct Answer {
     pub machine: Machine,
     pub outcome: Outcome,

@@ -8,7 +8,7 @@ use tasks::task::Task;
 
 // Release and Finish name a task by its number, from 1, and Release also the slots that the job will need; Slot names the number of cores that it has, and
 // Offer a task that is not in the table yet.
-#[derive(Drop)]
+#[derive(Clone, Copy)]
 pub enum Call {
     Release { number: u32, need: u32 },
     Finish(u32),

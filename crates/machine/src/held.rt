@@ -14,7 +14,7 @@ use tasks::table::Table;
 use tasks::task::Task;
 
 // No task, or the one of the last accepted offer.
-#[derive(Drop)]
+#[derive(Clone, Copy)]
 pub enum Held {
     None,
     Offered(Task),

@@ -1,4 +1,6 @@
 // The slot machine: document 01, "The slot machine".
+#![tactic(auto)]
+
 pub mod answer;
 pub mod call;
 mod commit;

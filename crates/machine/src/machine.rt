@@ -10,7 +10,7 @@ use tasks::table::{PerTask, Table};
 
 // The table, the number of cores, for each task its job and its core in the last accepted slot, 0 for none, and the task that an offer left, if one did.
 // Entries past the table's count are no part of it.
-#[derive(Drop)]
+#[derive(Clone, Copy)]
 pub struct Machine {
     pub table: Table,
     pub cores: u32,

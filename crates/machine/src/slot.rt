@@ -2,7 +2,7 @@
 ghost use Rattle.std.specs.Prelude.{◌≤◌, ◌≡◌};
 ghost use Rattle.tasks.specs.declared.outcome.Outcome.TheVariants.{Done};
 ghost use Rattle.tasks.specs.Limits.{max_tasks};
-ghost use Rattle.machine.specs.Slot.{after_slot, slot_report};
+ghost use Rattle.machine.specs.Slot.{ran_count, after_slot, slot_report};
 ghost use Rattle.machine.specs.Cores.{with_assigned};
 ghost use Rattle.machine.specs.Calls.{slot_cores_in_range, slot};
 
@@ -16,15 +16,14 @@ use tasks::refusals::{SLOT_CORES_OUT_OF_RANGE, UNSOUND_MACHINE};
 use tasks::table::PerTask;
 
 impl Machine {
-    // Steps 2 to 4 of a slot in which these tasks ran on these cores, which the machine records.
-    pub(crate) fn after_running(mut self, ran: Flags, assigned: PerTask) -> Answer
-        requires { self.table.count ≤ max_tasks }
+    // Steps 2 to 4 of a slot in which these tasks ran, so many in number, on these cores, which the machine records.
+    pub(crate) fn after_running(mut self, ran: Flags, runners: u32, assigned: PerTask) -> Answer
+        requires { (self.table.count ≤ max_tasks) × (runners ≡ ran_count self ran) }
         ensures { result ≡ record { machine = with_assigned (after_slot self ran) assigned; outcome = Done; report = slot_report self ran assigned } }
     {
         let count = self.table.count;
         let mut finished = [false; MAX_TASKS];
         let mut late = [false; MAX_TASKS];
-        let mut runners: u32 = 0;
         let mut i: usize = 0;
         while i < count {
             let job = self.jobs[i];
@@ -33,9 +32,6 @@ impl Machine {
             late[i] = passed.is_late();
             self.jobs[i] = passed.settled();
             self.assigned[i] = assigned[i];
-            if ran[i] {
-                runners += 1;
-            }
             i += 1;
         }
         Answer {
@@ -78,6 +74,6 @@ impl Machine {
         let ran = self.pick(ranks, runners, &mut order);
         let recorded = self.assigned;
         let assigned = assign(recorded, &order[..runners as usize], available);
-        self.after_running(ran, assigned)
+        self.after_running(ran, runners, assigned)
     }
 }

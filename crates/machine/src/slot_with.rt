@@ -1,5 +1,7 @@
 // A slot whose runners are given.
-ghost use Rattle.std.specs.Prelude.{◌≡◌};
+ghost use Rattle.std.specs.Prelude.{◌≡◌, ◌≤◌};
+ghost use Rattle.tasks.specs.Limits.{max_tasks};
+ghost use Rattle.machine.specs.Slot.{ran_count};
 ghost use Rattle.machine.specs.Calls.{slot_with};
 
 use crate::answer::Answer;
@@ -9,6 +11,23 @@ use tasks::limits::MAX_TASKS;
 use tasks::refusals::UNSOUND_MACHINE;
 
 impl Machine {
+    // How many of the table's tasks ran.
+    fn number_that_ran(self, ran: Flags) -> u32
+        requires { self.table.count ≤ max_tasks }
+        ensures { result ≡ ran_count self ran }
+    {
+        let count = self.table.count;
+        let mut number: u32 = 0;
+        let mut i: usize = 0;
+        while i < count {
+            if ran[i] {
+                number += 1;
+            }
+            i += 1;
+        }
+        number
+    }
+
     // Steps 2 to 4 of a slot in which these tasks ran, whoever chose them. It records no core.
     pub fn slot_with(self, ran: Flags) -> Answer
         ensures { result ≡ slot_with self ran }
@@ -16,6 +35,7 @@ impl Machine {
         if !self.is_sound() {
             return Answer::refused(self, UNSOUND_MACHINE);
         }
-        self.after_running(ran, [0; MAX_TASKS])
+        let runners = self.number_that_ran(ran);
+        self.after_running(ran, runners, [0; MAX_TASKS])
     }
 }

@@ -6,7 +6,10 @@ use Rattle.machine.proofs.start.zero_machine.Tie as tie
 
 returns : tie.Need-returns
 unfolding zero_machine
-returns c = rw (c.before.empty.ensures, c.fresh-job.ensures)
+returns c = rw (c.empty-table.ensures, c.fresh_job-fresh.ensures)
 
 pub zero_machine_spec : {M : Type 1} → statement M
-zero_machine_spec = tie.close (tie.spec (λ c κs. search rules) (λ c κs. search rules) returns)
+zero_machine_spec = tie.close (tie.spec
+    (λ c κs. search rules)
+    (λ c κs. search rules)
+    returns)

@@ -6,7 +6,9 @@ use Rattle.machine.proofs.answer.Answer.done.Tie as tie
 
 returns : tie.Need-returns
 unfolding done
-returns c = rw c.none.ensures
+returns c = rw c.none-report.ensures
 
 pub done_spec : {M : Type 1} → statement M
-done_spec = tie.close (tie.spec (λ c κs. search rules) returns)
+done_spec = tie.close (tie.spec
+    (λ c κs. search rules)
+    returns)

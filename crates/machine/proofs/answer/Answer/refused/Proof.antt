@@ -6,7 +6,9 @@ use Rattle.machine.proofs.answer.Answer.refused.Tie as tie
 
 returns : tie.Need-returns
 unfolding refuse
-returns c = rw c.none.ensures
+returns c = rw c.none-report.ensures
 
 pub refused_spec : {M : Type 1} → statement M
-refused_spec = tie.close (tie.spec (λ c κs. search rules) returns)
+refused_spec = tie.close (tie.spec
+    (λ c κs. search rules)
+    returns)

@@ -9,4 +9,5 @@ unfolding no_report
 returns c = refl
 
 pub none_spec : {M : Type 1} → statement M
-none_spec = tie.close (tie.spec returns)
+none_spec = tie.close (tie.spec
+    returns)

@@ -13,36 +13,32 @@ use Rattle.machine.proofs.machine.Machine.commit.Statement.{statement}
 use Rattle.machine.proofs.machine.Machine.commit.Tie as tie
 
 -- past refusal 0 the machine is sound
-is_sound : (c : tie.Else1) → sound c.before.before.args.self ≡ true
-is_sound c = was_true c.before.is_sound.ensures c.if1.false
+is_sound : (c : tie.Else-not-is_sound) → sound c.args.self ≡ true
+is_sound c = was_true c.is_sound.ensures c.if-not-is_sound.false-raw
 
 -- past it, what the machine holds decides
 by_held : (m : Machine) (held : Held) → sound m ≡ true → m.held ≡ held → commit m ≡ commit_held held m
 unfolding commit
 by_held m held ok e = rw ok (ap (λ (h : Held). commit_held h m) e)
 
-returns : tie.Need-returns
+returns : tie.Need-returns-then-not-is_sound
 unfolding commit
-returns c = rw (was_false c.before.before.is_sound.ensures c.before.if1.true) c.refused.ensures
+returns c = rw (was_false c.is_sound.ensures c.if-not-is_sound.true-raw) c.refused.ensures
 
-returns-2 : tie.Need-returns-2
+returns-2 : tie.Need-returns-in_default
 unfolding commit_held
 returns-2 c =
-    let h = c.before in
-    c.refused2.ensures ∙ sym (by_held _ None (is_sound h.before.before) h.enum_told.given.1)
+    c.refused-in_default.ensures ∙ sym (by_held _ None (is_sound c.before.before) c.in_default.is)
 
 -- a sound machine that holds a task has room for it
-with-joined-requires : tie.Need-with-joined-requires
+with-joined-requires : tie.Need-with_joined-requires
 with-joined-requires c κs =
-    let h = c.before in
-    (held_fits _ (is_sound h.before.before) _ h.held.given.1).room
+    (held_fits _ (is_sound c.before) _ c.in-Offered.is).room
 
-returns-3 : tie.Need-returns-3
+returns-3 : tie.Need-returns
 unfolding commit_held
 returns-3 c =
-    let j = c.before in
-    let h = j.before.before in
-    c.done.ensures ∙ ap done j.with-joined.ensures ∙ sym (by_held _ (Offered h.held.given.0.0) (is_sound h.before.before) h.held.given.1)
+    c.done.ensures ∙ ap done c.with_joined.ensures ∙ sym (by_held _ (Offered c.in-Offered.task) (is_sound c.before.before.before) c.in-Offered.is)
 
 pub commit_spec : {M : Type 1} → statement M
 commit_spec =

@@ -13,45 +13,42 @@ use Rattle.machine.proofs.machine.Machine.finish.Statement.{statement}
 use Rattle.machine.proofs.machine.Machine.finish.Tie as tie
 
 -- past refusal 0 the machine is sound
-is_sound : (c : tie.Else1) → sound c.before.before.args.t1 ≡ true
-is_sound c = was_true c.before.is_sound.ensures c.if1.false
+is_sound : (c : tie.Else-not-is_sound) → sound c.args.self ≡ true
+is_sound c = was_true c.is_sound.ensures c.if-not-is_sound.false-raw
 
 -- past refusal 8 the number is that of a task
-known : (c : tie.Else2) → KnownTask c.before.before.before.before.args.t1 c.before.before.before.before.args.number
-known c = known_task _ _ (is_sound c.before.before) (was_true c.before.in_table_lem.ensures c.if2.false)
+known : (c : tie.Else-not-in_table) → KnownTask c.args.self c.args.number
+known c = known_task _ _ (is_sound c.before.before) (was_true c.in_table.ensures c.if-not-in_table.false-raw)
 
-returns : tie.Need-returns
+returns : tie.Need-returns-then-not-is_sound
 unfolding finish
-returns c = rw (was_false c.before.before.is_sound.ensures c.before.if1.true) c.refused.ensures
+returns c = rw (was_false c.is_sound.ensures c.if-not-is_sound.true-raw) c.refused.ensures
 
-returns-2 : tie.Need-returns-2
+returns-2 : tie.Need-returns-then-not-in_table
 unfolding finish
 returns-2 c =
-    let t = c.before.before in
-    rw (is_sound t.before, was_false t.in_table_lem.ensures c.before.if2.true) c.refused2.ensures
+    rw (is_sound c.before.before.before, was_false c.in_table.ensures c.if-not-in_table.true-raw) c.refused-then-not-in_table.ensures
 
-sub-i : tie.Need-overflow-sub-i
+sub-i : tie.Need-overflow_sub-i
 sub-i c = omega (arith, known c)
 
-element-copy-out-job : tie.Need-element-copy-out-job
+element-copy-out-job : tie.Need-bounds-self-i
 element-copy-out-job c = omega (arith, known c)
 
-returns-3 : tie.Need-returns-3
+returns-3 : tie.Need-returns-then-not-job
 unfolding finish job_at fresh_job
 returns-3 c =
     let task = known c.before.before.before.before in
-    rw (task.is_sound, task.in_table_lem, c.before.if3.true) c.refused3.ensures
+    rw (task.is_sound, task.in_table_lem, c.if-not-job.true) c.refused-then-not-job.ensures
 
-with-job-requires : tie.Need-with-job-requires
+with-job-requires : tie.Need-with_job-requires
 with-job-requires c κs = omega (arith, known c.before.before.before.before)
 
-returns-4 : tie.Need-returns-4
+returns-4 : tie.Need-returns
 unfolding finish job_at fresh_job
 returns-4 c =
-    let w = c.before in
-    let e = w.before.before in
-    let task = known e.before.before.before in
-    rw (task.is_sound, task.in_table_lem, e.if3.false, ← w.before.closed.ensures, ← w.with-job.ensures) c.done.ensures
+    let task = known c.before.before.before.before.before.before in
+    rw (task.is_sound, task.in_table_lem, c.if-not-job.false, ← c.closed.ensures, ← c.with_job.ensures) c.done.ensures
 
 pub finish_spec : {M : Type 1} → statement M
 finish_spec =

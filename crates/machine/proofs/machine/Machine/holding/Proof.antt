@@ -9,4 +9,5 @@ unfolding holding
 returns c = refl
 
 pub holding_spec : {M : Type 1} → statement M
-holding_spec = tie.close (tie.spec returns)
+holding_spec = tie.close (tie.spec
+    returns)

@@ -14,34 +14,30 @@ use Rattle.machine.proofs.SoundLaws.{one_unsound}
 use Rattle.machine.proofs.machine.Machine.jobs_sound.Statement.{statement}
 use Rattle.machine.proofs.machine.Machine.jobs_sound.Tie as tie
 
-abbrev invariant-loop : tie.invariant-loop
+abbrev invariant-loop : tie.invariant-loop-i
 invariant-loop self table count i₀ i = (i ≤ count) × (jobs_sound self i ≡ true)
 
-abbrev decreases-loop : tie.decreases-loop
+abbrev decreases-loop : tie.decreases-loop-i
 decreases-loop self table count i₀ i = count - i
 
-loop-holds : tie.Need-loop-init invariant-loop decreases-loop
+loop-holds : tie.Need-loop-i-init invariant-loop decreases-loop
 unfolding jobs_sound
 loop-holds c = (omega arith, refl)
 
-returns : tie.Need-returns invariant-loop decreases-loop
+returns : tie.Need-returns-then-not-is_sound invariant-loop decreases-loop
 unfolding task_at job_at zero_task fresh_job
 returns c =
-    let d = c.before in
-    let l = d.before.before.before.before in
-    sym (one_unsound l.before.before.args.t1 _ l.loop.i (was_false d.is_sound.ensures c.if1.true) d.before.before.before.loop-test.true)
+    sym (one_unsound c.args.self _ c.loop-i.i (was_false c.is_sound.ensures c.if-not-is_sound.true-raw) c.loop-i-test.true)
 
-loop-again : tie.Need-loop-preserved invariant-loop decreases-loop
+loop-again : tie.Need-loop-i-preserved invariant-loop decreases-loop
 unfolding jobs_sound task_at job_at zero_task fresh_job
 loop-again c =
-    let d = c.before in
-    let l = d.before.before.before.before in
-    (omega arith, rw (add-one l.loop.i, l.loop.invariant.1) (was_true d.is_sound.ensures c.if1.false))
+    (omega arith, rw (add-one c.loop-i.i, c.loop-i.invariant.1) (was_true c.is_sound.ensures c.if-not-is_sound.false-raw))
 
-returns-2 : tie.Need-returns-2 invariant-loop decreases-loop
+returns-2 : tie.Need-returns invariant-loop decreases-loop
 returns-2 c =
-    let e : c.before.loop.i ≡ c.before.before.before.args.t1.table.count = omega arith in
-    sym (rw e at c.before.loop.invariant.1)
+    let e : c.loop-i.i ≡ c.args.self.table.count = omega arith in
+    sym (rw e at c.loop-i.invariant.1)
 
 pub jobs_sound_spec : {M : Type 1} → statement M
 jobs_sound_spec =

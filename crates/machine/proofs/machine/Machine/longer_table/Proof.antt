@@ -10,4 +10,8 @@ unfolding with_task
 returns c = refl
 
 pub longer_table_spec : {M : Type 1} → statement M
-longer_table_spec = tie.close (tie.spec (λ c. search rules) (λ c. search rules) (λ c. search rules) returns)
+longer_table_spec = tie.close (tie.spec
+    (λ c. search rules)
+    (λ c. search rules)
+    (λ c. search rules)
+    returns)

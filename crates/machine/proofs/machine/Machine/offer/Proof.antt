@@ -21,25 +21,25 @@ use Rattle.machine.proofs.machine.Machine.offer.Statement.{statement}
 use Rattle.machine.proofs.machine.Machine.offer.Tie as tie
 
 -- past refusal 0 the machine is sound
-is_sound : (c : tie.Else1) → sound c.before.before.args.self ≡ true
-is_sound c = was_true c.before.is_sound.ensures c.if1.false
+is_sound : (c : tie.Else-not-is_sound) → sound c.args.self ≡ true
+is_sound c = was_true c.is_sound.ensures c.if-not-is_sound.false-raw
 
 -- the checks of a verdict that is a refusal, and of one that was carried out
 refused-checks :
-    (c : tie.After-enum-told)
-    → let a = c.before.before.before.before.before.args in
-    let told = c.enum_told.given.0 in
-    offer_checked a.self.table a.self.cores a.task ≡ Refused told.0 told.1.0
+    (c : tie.In_default)
+    → let a = c.args in
+    let refused = c.in_default in
+    offer_checked a.self.table a.self.cores a.task ≡ Refused refused.field-0 refused.field-1
 refused-checks c =
-    refused_verdict _ _ _ _ _ (sym (ap admission_values_of c.enum_told.given.1) ∙ c.before.before.offer-verdict.ensures)
+    refused_verdict _ _ _ _ _ (sym (ap admission_values_of c.in_default.is) ∙ c.offer_verdict-verdict.ensures)
 
 judged-checks :
-    (c : tie.After-known-told)
-    → let a = c.before.before.before.before.before.before.args in
-    let admitted = c.before.verdict.given.0.0 in
+    (c : tie.In-Judged)
+    → let a = c.args in
+    let admitted = c.in-Judged.admitted in
     offer_checked a.self.table a.self.cores a.task ≡ cond admitted Done (Refused not_admitted 0)
 judged-checks c =
-    judged_verdict _ _ _ _ (sym (ap admission_values_of c.before.verdict.given.1) ∙ c.before.before.before.offer-verdict.ensures)
+    judged_verdict _ _ _ _ (sym (ap admission_values_of c.in-Judged.is) ∙ c.offer_verdict-verdict.ensures)
 
 -- the offer by its checks
 module _ (m : Machine) (t : Task) (ok : sound m ≡ true) where
@@ -53,30 +53,25 @@ module _ (m : Machine) (t : Task) (ok : sound m ≡ true) where
   unfolding offer offer_after
   taken e = rw (ok, e)
 
-returns : tie.Need-returns
+returns : tie.Need-returns-then-not-is_sound
 unfolding offer
-returns c = rw (was_false c.before.before.is_sound.ensures c.before.if1.true) c.refused.ensures
+returns c = rw (was_false c.is_sound.ensures c.if-not-is_sound.true-raw) c.refused.ensures
 
-returns-2 : tie.Need-returns-2
+returns-2 : tie.Need-returns-in_default
 unfolding admission_values_of
 returns-2 c =
-    let o = c.before in
-    let v = o.before in
-    rw (c.none.ensures, o.outcome.ensures, v.enum_told.given.1) (refused-by _ _ (is_sound v.before.before.before) _ _ (refused-checks v))
+    rw (c.none-report.ensures, c.outcome-outcome.ensures, c.in_default.is) (refused-by _ _ (is_sound c.before.before.before.before) _ _ (refused-checks c.before.before))
 
-returns-3 : tie.Need-returns-3
+returns-3 : tie.Need-returns-then-not-admitted
 unfolding refuse
 returns-3 c =
-    let v = c.before.before in
-    let not-admitted = rw (not-true v.before.verdict.given.0.0 c.before.if2.true) at (judged-checks v) in
-    c.refused2.ensures ∙ refused-by _ _ (is_sound v.before.before.before.before) not_admitted 0 not-admitted
+    let not-admitted = rw (not-true c.in-Judged.admitted c.if-not-admitted.true-raw) at (judged-checks c.before.before) in
+    c.refused-then-not-admitted.ensures ∙ refused-by _ _ (is_sound c.before.before.before.before) not_admitted 0 not-admitted
 
-returns-4 : tie.Need-returns-4
+returns-4 : tie.Need-returns
 returns-4 c =
-    let h = c.before in
-    let v = h.before.before in
-    let admitted = rw (not-false v.before.verdict.given.0.0 h.before.if2.false) at (judged-checks v) in
-    c.done.ensures ∙ ap done h.holding.ensures ∙ taken _ _ (is_sound v.before.before.before.before) admitted
+    let admitted = rw (not-false c.in-Judged.admitted c.if-not-admitted.false-raw) at (judged-checks c.before.before.before) in
+    c.done.ensures ∙ ap done c.holding.ensures ∙ taken _ _ (is_sound c.before.before.before.before.before) admitted
 
 pub offer_spec : {M : Type 1} → statement M
 offer_spec =

@@ -18,8 +18,8 @@ use Rattle.machine.proofs.machine.Machine.offer_verdict.Statement.{statement}
 use Rattle.machine.proofs.machine.Machine.offer_verdict.Tie as tie
 
 -- past refusal 5 the task is in range
-in_range_lem : (c : tie.Else1) → in_range c.before.before.args.task ≡ true
-in_range_lem c = was_true c.before.in_range_lem.ensures c.if1.false
+in_range_lem : (c : tie.Else-not-in_range) → in_range c.args.task ≡ true
+in_range_lem c = was_true c.in_range.ensures c.if-not-in_range.false-raw
 
 -- the verdict in each case
 module _ (t : Table) (cores : ℕ) (task : Task) where
@@ -35,21 +35,26 @@ module _ (t : Table) (cores : ℕ) (task : Task) where
   unfolding offer_verdict
   judged fits h = rw (fits, lt-leb max_tasks _ h)
 
-returns : tie.Need-returns
-returns c = out_of_range _ _ _ (was_false c.before.in_range_lem.ensures c.if1.true)
+returns : tie.Need-returns-then-not-in_range
+returns c = out_of_range _ _ _ (was_false c.in_range.ensures c.if-not-in_range.true-raw)
 
-returns-2 : tie.Need-returns-2
-returns-2 c = full _ _ _ (in_range_lem c.before.before) c.if2.true
+returns-2 : tie.Need-returns-then-self-ge-MAX_TASKS
+returns-2 c = full _ _ _ (in_range_lem c.before.before) c.if-self-ge-MAX_TASKS.true
 
-returns-3 : tie.Need-returns-3
+returns-3 : tie.Need-returns
 returns-3 c =
-    let e = c.before.before in
-    let cores = e.before.before.before.before.args.self.cores in
+    let cores = c.args.self.cores in
     c.admit.ensures
-    ∙ ap (λ (t : Table). admission t cores) c.before.longer-table.ensures
-    ∙ judged _ _ _ (in_range_lem e.before.before) e.if2.false
+    ∙ ap (λ (t : Table). admission t cores) c.longer_table-longer.ensures
+    ∙ judged _ _ _ (in_range_lem c.before.before.before.before) c.if-self-ge-MAX_TASKS.false
 
 pub offer_verdict_spec : {M : Type 1} → statement M
 offer_verdict_spec =
     tie.close
-    (tie.spec (λ c κs. search rules) returns returns-2 (λ c κs. search rules) (λ c κs. search rules) returns-3)
+    (tie.spec
+    (λ c κs. search rules)
+    returns
+    returns-2
+    (λ c κs. search rules)
+    (λ c κs. search rules)
+    returns-3)

@@ -16,65 +16,59 @@ use Rattle.machine.proofs.machine.Machine.release.Statement.{statement}
 use Rattle.machine.proofs.machine.Machine.release.Tie as tie
 
 -- past refusal 0 the machine is sound
-is_sound : (c : tie.Else1) → sound c.before.before.args.t1 ≡ true
-is_sound c = was_true c.before.is_sound.ensures c.if1.false
+is_sound : (c : tie.Else-not-is_sound) → sound c.args.self ≡ true
+is_sound c = was_true c.is_sound.ensures c.if-not-is_sound.false-raw
 
 -- past refusal 8 the number is that of a task
-known : (c : tie.Else2) → KnownTask c.before.before.before.before.args.t1 c.before.before.before.before.args.number
-known c = known_task _ _ (is_sound c.before.before) (was_true c.before.in_table_lem.ensures c.if2.false)
+known : (c : tie.Else-not-in_table) → KnownTask c.args.self c.args.number
+known c = known_task _ _ (is_sound c.before.before) (was_true c.in_table.ensures c.if-not-in_table.false-raw)
 
 -- past refusal 15 its job may have this need
-abbrev past-8 : tie.Else3 → tie.Else2
+abbrev past-8 : tie.Else-not-need_in_range → tie.Else-not-in_table
 past-8 c = c.before.before.before.before
 
-needed : (c : tie.Else3) → let a = (past-8 c).before.before.before.before.args in need_in_range (task_at a.t1 (a.number - 1)) a.need ≡ true
+needed : (c : tie.Else-not-need_in_range) → let a = c.args in need_in_range (task_at a.self (a.number - 1)) a.need ≡ true
 unfolding task_at zero_task
-needed c = was_true c.before.need-in-range.ensures c.if3.false
+needed c = was_true c.need_in_range.ensures c.if-not-need_in_range.false-raw
 
-returns : tie.Need-returns
+returns : tie.Need-returns-then-not-is_sound
 unfolding release
-returns c = rw (was_false c.before.before.is_sound.ensures c.before.if1.true) c.refused.ensures
+returns c = rw (was_false c.is_sound.ensures c.if-not-is_sound.true-raw) c.refused.ensures
 
-returns-2 : tie.Need-returns-2
+returns-2 : tie.Need-returns-then-not-in_table
 unfolding release
 returns-2 c =
-    let t = c.before.before in
-    rw (is_sound t.before, was_false t.in_table_lem.ensures c.before.if2.true) c.refused2.ensures
+    rw (is_sound c.before.before.before, was_false c.in_table.ensures c.if-not-in_table.true-raw) c.refused-then-not-in_table.ensures
 
-sub-i : tie.Need-overflow-sub-i
+sub-i : tie.Need-overflow_sub-i
 sub-i c = omega (arith, known c)
 
-element-copy-out-task : tie.Need-element-copy-out-task
+element-copy-out-task : tie.Need-bounds-table-i
 element-copy-out-task c = omega (arith, known c.before)
 
-returns-3 : tie.Need-returns-3
+returns-3 : tie.Need-returns-then-not-need_in_range
 unfolding release task_at zero_task
 returns-3 c =
-    let n = c.before.before in
-    let task = known n.before.before.before in
-    rw (task.is_sound, task.in_table_lem, was_false n.need-in-range.ensures c.before.if3.true) c.refused3.ensures
+    let task = known c.before.before.before.before.before in
+    rw (task.is_sound, task.in_table_lem, was_false c.need_in_range.ensures c.if-not-need_in_range.true-raw) c.refused-then-not-need_in_range.ensures
 
-element-copy-out-job : tie.Need-element-copy-out-job
-element-copy-out-job c = omega (arith, known (past-8 c))
+element-copy-out-job : tie.Need-bounds-self-i
+element-copy-out-job c = omega (arith, known c.before.before.before.before)
 
-returns-4 : tie.Need-returns-4
+returns-4 : tie.Need-returns-then-job-gt0
 unfolding release job_at fresh_job
 returns-4 c =
-    let e = c.before.before.before.before in
-    let task = known (past-8 e) in
-    rw (task.is_sound, task.in_table_lem, needed e, lt-ltb _ _ c.before.if4.true) c.refused4.ensures
+    let task = known c.before.before.before.before.before.before.before.before in
+    rw (task.is_sound, task.in_table_lem, needed c.before.before.before.before, lt-ltb 0 (job_at c.args.self (c.args.number - 1)).gap (omega (arith, c.if-job-gt0.true))) c.refused-then-job-gt0.ensures
 
-with-job-requires : tie.Need-with-job-requires
-with-job-requires c κs = omega (arith, known (past-8 c.before.before.before.before))
+with-job-requires : tie.Need-with_job-requires
+with-job-requires c κs = omega (arith, known c.before.before.before.before.before.before.before.before)
 
-returns-5 : tie.Need-returns-5
+returns-5 : tie.Need-returns
 unfolding release task_at job_at fresh_job zero_task
 returns-5 c =
-    let w = c.before in
-    let e = w.before.before in
-    let n = e.before.before.before in
-    let task = known (past-8 n) in
-    rw (task.is_sound, task.in_table_lem, needed n, le-ltb _ _ e.if4.false, ← w.before.released.ensures, ← w.with-job.ensures) c.done.ensures
+    let task = known c.before.before.before.before.before.before.before.before.before.before in
+    rw (task.is_sound, task.in_table_lem, needed c.before.before.before.before.before.before, le-ltb _ _ c.if-job-gt0.false, ← c.released.ensures, ← c.with_job.ensures) c.done.ensures
 
 pub release_spec : {M : Type 1} → statement M
 release_spec =

@@ -17,18 +17,19 @@ use Rattle.machine.specs.Cores.{runner_order, slot_assignment}
 use Rattle.machine.specs.Sound.{sound}
 use Rattle.machine.specs.Calls.{slot_cores_in_range, slot}
 use Rattle.machine.proofs.SoundLaws.{sound_passes}
+use Rattle.machine.proofs.RunnersLegal.{runners_number}
 use Rattle.machine.proofs.machine.Machine.slot.Statement.{statement}
 use Rattle.machine.proofs.machine.Machine.slot.Tie as tie
 
 -- past refusal 0 the machine is sound
-is_sound : (c : tie.Else1) → sound c.before.before.args.self ≡ true
-is_sound c = was_true c.before.is_sound.ensures c.if1.false
+is_sound : (c : tie.Else-not-is_sound) → sound c.args.self ≡ true
+is_sound c = was_true c.is_sound.ensures c.if-not-is_sound.false-raw
 
 -- past refusal 14 the slot has cores enough, and the machine has 32 tasks at most
-in_range_lem : (c : tie.Else2) → let a = c.before.before.before.before.args in slot_cores_in_range a.self a.available ≡ true
-in_range_lem c = was_true c.before.slot-cores-in-range.ensures c.if2.false
+in_range_lem : (c : tie.Else-not-slot_cores_in_range) → let a = c.args in slot_cores_in_range a.self a.available ≡ true
+in_range_lem c = was_true c.slot_cores_in_range.ensures c.if-not-slot_cores_in_range.false-raw
 
-fits : (c : tie.Else2) → c.before.before.before.before.args.self.table.count ≤ 32
+fits : (c : tie.Else-not-slot_cores_in_range) → c.args.self.table.count ≤ 32
 fits c = (sound_passes _ (is_sound c.before.before)).count_fits
 
 -- no more run than are open, and no more are open than the table has tasks
@@ -40,73 +41,68 @@ few-open : (m : Machine) → open_count m ≤ m.table.count
 unfolding open_count
 few-open m = count_bound (λ i. (job_at m i).«open») m.table.count
 
-returns : tie.Need-returns
+returns : tie.Need-returns-then-not-is_sound
 unfolding slot
-returns c = rw (was_false c.before.before.is_sound.ensures c.before.if1.true) c.refused.ensures
+returns c = rw (was_false c.is_sound.ensures c.if-not-is_sound.true-raw) c.refused.ensures
 
-returns-2 : tie.Need-returns-2
+returns-2 : tie.Need-returns-then-not-slot_cores_in_range
 unfolding slot
 returns-2 c =
-    let tested = c.before.before in
-    rw (is_sound tested.before, was_false tested.slot-cores-in-range.ensures c.before.if2.true) c.refused2.ensures
+    rw (is_sound c.before.before.before, was_false c.slot_cores_in_range.ensures c.if-not-slot_cores_in_range.true-raw) c.refused-then-not-slot_cores_in_range.ensures
 
-ranks-requires : tie.Need-ranks-requires
+ranks-requires : tie.Need-ranks-tasks-requires
 ranks-requires c κs = fits c
 
-runner-count-requires : tie.Need-runner-count-requires
-runner-count-requires c κs = ap (λ (r : Ranks). r.open_count) c.before.ranks.ensures
+runner-count-requires : tie.Need-runner_count-runners-requires
+runner-count-requires c κs = ap (λ (r : Ranks). r.open_count) c.ranks-tasks.ensures
 
-pick-requires : tie.Need-pick-requires
+pick-requires : tie.Need-pick-ran-requires
 pick-requires c κs =
-    let r = c.before.before.before in
-    let a = r.before.before.before.before.before.args in (
-      is_sound r.before.before.before,
-      ap (λ (r : Ranks). r.ranks) r.ranks.ensures,
-      rw c.before.runner-count.ensures (few a.self a.available),
+    let a = c.args in (
+      is_sound c.before.before.before.before.before.before,
+      ap (λ (r : Ranks). r.ranks) c.ranks-tasks.ensures,
+      rw c.runner_count-runners.ensures (few a.self a.available),
       refl,
     )
 
 -- the place past the refusals, from the place after the pick
-abbrev past : tie.After-pick → tie.Else2
+abbrev past : tie.After-pick-ran → tie.Else-not-slot_cores_in_range
 past c = c.before.before.before.before.before
 
 -- who is picked are the machine's runners
-ran-are : (c : tie.After-pick) → let a = (past c).before.before.before.before.args in c.pick.result ≡ runners a.self a.available
+ran-are : (c : tie.After-pick-ran) → let a = c.args in c.pick-ran.result ≡ runners a.self a.available
 unfolding runners
-ran-are c = c.pick.ensures.0 ∙ ap (pick _) c.before.before.runner-count.ensures
+ran-are c = c.pick-ran.ensures.0 ∙ ap (pick _) c.runner_count-runners.ensures
 
-array-share-prefix-order : tie.Need-array-share-prefix-order
+array-share-prefix-order : tie.Need-slice_bounds-order-end
 array-share-prefix-order c =
-    let p = c.before.before in
-    let e : length p.pick.new.1.1.1.0 ≡ 32 = search rules in
-    let a = (past p).before.before.before.before.args in
-    omega (arith, few-open a.self, fits (past p), few a.self a.available, p.before.before.runner-count.ensures)
+    let e : length c.pick-ran.new.order ≡ 32 = search rules in
+    let a = c.args in
+    omega (arith, few-open a.self, fits c.before.before.before.before.before.before.before, few a.self a.available, c.runner_count-runners.ensures)
 
-slice-aggregate-assign : tie.Need-slice-aggregate-assign
+slice-aggregate-assign : tie.Need-slice_bounds-assign-end
 slice-aggregate-assign c = sym (length-take-le _ _ (array-share-prefix-order c.before))
 
 -- the cores are those of its runners
 cores_are_lem :
-    (c : tie.After-assign)
-    → let a = (past c.before.before.before.before).before.before.before.before.args in
-    c.assign.result ≡ slot_assignment a.self a.available
+    (c : tie.After-assign-assigned)
+    → let a = c.args in
+    c.assign-assigned.result ≡ slot_assignment a.self a.available
 unfolding slot_assignment
 cores_are_lem c =
-    let p = c.before.before.before.before in
-    let a = (past p).before.before.before.before.args in
-    c.assign.ensures
-    ∙ ap (assignment a.self.assigned a.available) (p.pick.ensures.1 ∙ ap (runner_order a.self) p.before.before.runner-count.ensures)
+    let a = c.args in
+    c.assign-assigned.ensures
+    ∙ ap (assignment a.self.assigned a.available) (c.pick-ran.ensures.1 ∙ ap (runner_order a.self) c.runner_count-runners.ensures)
 
-after-running-requires : tie.Need-after-running-requires
-after-running-requires c κs = fits (past c.before.before.before.before)
+after-running-requires : tie.Need-after_running-requires
+after-running-requires c κs =
+    let m = fits c.before.before.before.before.before.before.before.before.before in
+    (m, c.runner_count-runners.ensures ∙ rw (ran-are c.before.before.before.before) (sym (runners_number _ _ m)))
 
-returns-3 : tie.Need-returns-3
+returns-3 : tie.Need-returns
 unfolding slot
 returns-3 c =
-    let a = c.before in
-    let p = a.before.before.before.before in
-    let e = past p in
-    rw (is_sound e.before.before, in_range_lem e, ← ran-are p, ← cores_are_lem a) c.after-running.ensures
+    rw (is_sound c.before.before.before.before.before.before.before.before.before.before.before.before, in_range_lem c.before.before.before.before.before.before.before.before.before.before, ← ran-are c.before.before.before.before.before, ← cores_are_lem c.before) c.after_running.ensures
 
 pub slot_spec : {M : Type 1} → statement M
 slot_spec =

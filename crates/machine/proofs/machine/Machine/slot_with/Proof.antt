@@ -10,19 +10,19 @@ use Rattle.machine.proofs.machine.Machine.slot_with.Statement.{statement}
 use Rattle.machine.proofs.machine.Machine.slot_with.Tie as tie
 
 -- past refusal 0 the machine is sound
-is_sound : (c : tie.Else1) → sound c.before.before.args.self ≡ true
-is_sound c = was_true c.before.is_sound.ensures c.if1.false
+is_sound : (c : tie.Else-not-is_sound) → sound c.args.self ≡ true
+is_sound c = was_true c.is_sound.ensures c.if-not-is_sound.false-raw
 
-returns : tie.Need-returns
+returns : tie.Need-returns-then-not-is_sound
 unfolding slot_with
-returns c = rw (was_false c.before.before.is_sound.ensures c.before.if1.true) c.refused.ensures
+returns c = rw (was_false c.is_sound.ensures c.if-not-is_sound.true-raw) c.refused.ensures
 
-after-running-requires : tie.Need-after-running-requires
-after-running-requires c κs = (sound_passes _ (is_sound c)).count_fits
+after-running-requires : tie.Need-after_running-requires
+after-running-requires c κs = ((sound_passes _ (is_sound c.before)).count_fits, c.number_that_ran-runners.ensures)
 
-returns-2 : tie.Need-returns-2
+returns-2 : tie.Need-returns
 unfolding slot_with
-returns-2 c = rw (is_sound c.before) c.after-running.ensures
+returns-2 c = rw (is_sound c.before.before) c.after_running.ensures
 
 pub slot_with_spec : {M : Type 1} → statement M
 slot_with_spec =
@@ -31,5 +31,6 @@ slot_with_spec =
     (λ c κs. search rules)
     (λ c κs. search rules)
     returns
+    (λ c κs. (sound_passes _ (is_sound c)).count_fits)
     after-running-requires
     returns-2)

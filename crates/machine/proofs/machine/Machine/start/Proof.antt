@@ -5,21 +5,19 @@ use borrow.Author.Rules.{rules}
 use Rattle.machine.proofs.machine.Machine.start.Statement.{statement}
 use Rattle.machine.proofs.machine.Machine.start.Tie as tie
 
-returns : tie.Need-returns
+returns : tie.Need-returns-in-Refused
 unfolding start start_after
 returns c =
-    let o = c.before.before.before in
     record {
-      is = rw (← o.before.before.check.ensures, o.outcome.given.1, c.before.zero-machine.ensures, c.none.ensures);
+      is = rw (← c.check-outcome.ensures, c.in-Refused.is, c.zero_machine-machine.ensures, c.none-report.ensures);
       in_time = promise _ _;
     }
 
-returns-2 : tie.Need-returns-2
+returns-2 : tie.Need-returns
 unfolding start start_after
 returns-2 c =
-    let t = c.before.before in
     record {
-      is = rw (← t.before.before.check.ensures, t.enum_told.given.1, ← c.before.fresh-job.ensures) c.done.ensures;
+      is = rw (← c.check-outcome.ensures, c.in_default.is, ← c.fresh_job-fresh.ensures) c.done.ensures;
       in_time = promise _ _;
     }
 

@@ -4,25 +4,25 @@ use borrow.Author.Rules.{rules}
 use Rattle.machine.proofs.machine.Machine.step.Statement.{statement}
 use Rattle.machine.proofs.machine.Machine.step.Tie as tie
 
-returns : tie.Need-returns
+returns : tie.Need-returns-in-Release
 unfolding step
-returns c = rw c.before.before.call.given.1 c.release.ensures
+returns c = rw c.in-Release.is c.release.ensures
 
-returns-2 : tie.Need-returns-2
+returns-2 : tie.Need-returns-in-Finish
 unfolding step
-returns-2 c = rw c.before.before.call2.given.1 c.finish.ensures
+returns-2 c = rw c.in-Finish.is c.finish.ensures
 
-returns-3 : tie.Need-returns-3
+returns-3 : tie.Need-returns-in-Slot
 unfolding step
-returns-3 c = rw c.before.before.call3.given.1 c.slot.ensures
+returns-3 c = rw c.in-Slot.is c.slot.ensures
 
-returns-4 : tie.Need-returns-4
+returns-4 : tie.Need-returns-in-Offer
 unfolding step
-returns-4 c = rw c.before.before.call4.given.1 c.offer.ensures
+returns-4 c = rw c.in-Offer.is c.offer.ensures
 
-returns-5 : tie.Need-returns-5
+returns-5 : tie.Need-returns-in-Commit
 unfolding step
-returns-5 c = rw c.before.enum_told.given.1 c.commit.ensures
+returns-5 c = rw c.in-Commit.is c.commit.ensures
 
 pub step_spec : {M : Type 1} → statement M
 step_spec =

@@ -16,17 +16,20 @@ unfolding is_done
 judged-passes true = refl
 judged-passes false = refl
 
-returns : tie.Need-returns
+returns : tie.Need-returns-in_default
 unfolding is_done
 returns c =
-    let v = c.before.before in
-    rw (refused_verdict _ _ _ _ _ (sym (ap admission_values_of c.enum_told.given.1) ∙ v.offer-verdict.ensures))
+    rw (refused_verdict _ _ _ _ _ (sym (ap admission_values_of c.in_default.is) ∙ c.offer_verdict-verdict.ensures))
 
-returns-2 : tie.Need-returns-2
+returns-2 : tie.Need-returns
 returns-2 c =
-    let v = c.before.before.before in
-    let told = c.before.verdict.given in
-    rw (judged_verdict _ _ _ told.0.0 (sym (ap admission_values_of told.1) ∙ v.offer-verdict.ensures)) (judged-passes told.0.0)
+    let admitted = c.in-Judged.admitted in
+    rw (judged_verdict _ _ _ admitted (sym (ap admission_values_of c.in-Judged.is) ∙ c.offer_verdict-verdict.ensures)) (judged-passes admitted)
 
 pub takes_offer_spec : {M : Type 1} → statement M
-takes_offer_spec = tie.close (tie.spec (λ c κs. search rules) (λ c. search rules) (λ c. search rules) returns returns-2)
+takes_offer_spec = tie.close (tie.spec
+    (λ c κs. search rules)
+    (λ c. search rules)
+    (λ c. search rules)
+    returns
+    returns-2)

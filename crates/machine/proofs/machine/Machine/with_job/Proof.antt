@@ -10,4 +10,7 @@ unfolding with_job
 returns c = refl
 
 pub with_job_spec : {M : Type 1} → statement M
-with_job_spec = tie.close (tie.spec (λ c. search rules) (λ c. search rules) returns)
+with_job_spec = tie.close (tie.spec
+    (λ c. search rules)
+    (λ c. search rules)
+    returns)

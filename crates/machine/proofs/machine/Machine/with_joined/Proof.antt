@@ -6,7 +6,7 @@ use Rattle.machine.proofs.machine.Machine.with_joined.Tie as tie
 
 returns : tie.Need-returns
 unfolding with_joined
-returns c = rw (c.before.before.before.longer-table.ensures, c.before.fresh-job.ensures)
+returns c = rw (c.longer_table-table.ensures, c.fresh_job.ensures)
 
 pub with_joined_spec : {M : Type 1} → statement M
 with_joined_spec =

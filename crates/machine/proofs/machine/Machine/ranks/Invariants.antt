@@ -1,0 +1,21 @@
+-- The ranks and the count of the tasks so far.
+use Rattle.std.proofs.Common.{◌-◌, ◌≤◌, ◌≡◌}
+use lib.ListN.{replicate}
+use Rattle.laws.specs.Sums.{sum_to, bit}
+use Rattle.laws.specs.Lists.{replaced}
+use Rattle.tasks.specs.Limits.{max_tasks}
+use Rattle.job.specs.Rank.{never}
+use Rattle.machine.specs.Machine.{job_at}
+use Rattle.machine.specs.Pick.{pick}
+use Rattle.machine.specs.Ranks.{rank_at}
+use Rattle.machine.proofs.machine.Machine.ranks.Given as goal
+
+abbrev pub invariant-loop-i : goal.invariant-loop-i
+invariant-loop-i l =
+    (l.i ≤ l.count)
+    × (l.ranks ≡ replaced l.i (rank_at l.self (pick l.self 0)) (replicate max_tasks never))
+    × (l.open_count ≡ sum_to l.i (λ k. bit (job_at l.self k).«open»))
+    × (l.open_count ≤ l.i)
+
+abbrev pub decreases-loop-i : goal.decreases-loop-i
+decreases-loop-i l = l.count - l.i
