@@ -1,4 +1,6 @@
 // Plays many slots of the table on standard input, on half as many cores as tasks, and prints a checksum: for benchmarks.
+#![tactic(auto)]
+
 ghost use Rattle.std.specs.Prelude.{◌^◌, ◌≤◌, ◌<◌};
 ghost use Rattle.tasks.specs.Limits.{max_tasks};
 
@@ -108,11 +110,11 @@ fn played(text: &[u8]) -> u64 {
     play(machine, count, SLOTS)
 }
 
-fn main() {
+fn main(rt: HostRuntime) {
     let mut input = [0u8; INPUT_ROOM];
     let mut output = [0u8; OUTPUT_ROOM];
-    let n = stdio::read_input(&mut input);
+    let n = stdio::read_input(&rt, &mut input);
     let numbers = [played(&input[..n])];
     let used = put_numbers(&mut output, 0, &numbers);
-    stdio::write_output(&output, used);
+    stdio::write_output(&rt, &output, used);
 }

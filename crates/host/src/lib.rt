@@ -1,4 +1,6 @@
 // The one entry for a host program in C.
+#![tactic(auto)]
+
 ghost use Rattle.std.specs.Prelude.{◌≡◌};
 ghost use Rattle.host.specs.Host.{host_answer};
 

@@ -1,4 +1,6 @@
 // The lines that verdict and sharper print of a table, and what quote shares with them. What puts them answers how many bytes the array then holds.
+#![tactic(auto)]
+
 ghost use Rattle.std.specs.Prelude.{min, ◌≡◌, ◌++◌};
 ghost use Rattle.text.specs.Output.{Put};
 ghost use Rattle.tasks.specs.Limits.{max_cores};
@@ -11,7 +13,7 @@ use tasks::table::Table;
 use text::output::{put, put_numbers, put_refused};
 
 // Which test's lines are printed: verdict's or sharper's.
-#[derive(Drop)]
+#[derive(Clone, Copy)]
 pub enum Test {
     Window,
     Slack,

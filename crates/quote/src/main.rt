@@ -1,4 +1,6 @@
 // Prints the quotes of the ranges on standard input: docs/HANDBOOK.md, "Quotes over ranges".
+#![tactic(auto)]
+
 use lines::OUTPUT_ROOM;
 use tasks::limits::MAX_TEXT_LENGTH;
 use tasks::outcome::Outcome;
@@ -36,10 +38,10 @@ fn quote(output: &mut [u8], text: &[u8]) -> usize
     put_printed(output, text)
 }
 
-fn main() {
+fn main(rt: HostRuntime) {
     let mut input = [0u8; INPUT_ROOM];
     let mut output = [0u8; OUTPUT_ROOM];
-    let n = stdio::read_input(&mut input);
+    let n = stdio::read_input(&rt, &mut input);
     let used = quote(&mut output, &input[..n]);
-    stdio::write_output(&output, used);
+    stdio::write_output(&rt, &output, used);
 }

@@ -19,14 +19,14 @@ const VALUE_DIGITS: usize = 7;
 const LARGEST_VALUE: u32 = 9_999_999;
 
 // What reading a text gives: the ranges and Done, or a table of zeros and the refusal.
-#[derive(Drop)]
+#[derive(Clone, Copy)]
 pub struct RangedReading {
     pub table: RangedTable,
     pub outcome: Outcome,
 }
 
 // A value line with its byte 10 is `length` bytes long.
-#[derive(Drop)]
+#[derive(Clone, Copy)]
 enum RangeLine {
     Read { task: RangedTask, length: usize },
     Broken,

@@ -1,4 +1,6 @@
 // Plays case j of document 01 for six slots, then case k for five, and prints a line for each slot.
+#![tactic(auto)]
+
 ghost use Rattle.std.specs.Prelude.{◌≤◌, ◌≡◌, List, ◌++◌, length, replicate};
 ghost use Rattle.text.specs.Output.{Put, Holds};
 ghost use Rattle.tasks.specs.Limits.{max_tasks};
@@ -112,8 +114,8 @@ fn sessions(output: &mut [u8]) -> usize
     play(output, used, case_k(), CASE_K_CORES, 5)
 }
 
-fn main() {
+fn main(rt: HostRuntime) {
     let mut output = [0u8; OUTPUT_ROOM];
     let used = sessions(&mut output);
-    stdio::write_output(&output, used);
+    stdio::write_output(&rt, &output, used);
 }

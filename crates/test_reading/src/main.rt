@@ -1,4 +1,6 @@
 // Prints what reading standard input gives, with the place of a refusal and every task: for tests.
+#![tactic(auto)]
+
 use tasks::limits::{MAX_TASKS, MAX_TEXT_LENGTH};
 use tasks::outcome::Outcome;
 use tasks::task::Task;
@@ -47,10 +49,10 @@ fn put_reading(output: &mut [u8], text: &[u8]) -> usize {
     put_tasks(output, at, tasks)
 }
 
-fn main() {
+fn main(rt: HostRuntime) {
     let mut input = [0u8; INPUT_ROOM];
     let mut output = [0u8; OUTPUT_ROOM];
-    let n = stdio::read_input(&mut input);
+    let n = stdio::read_input(&rt, &mut input);
     let used = put_reading(&mut output, &input[..n]);
-    stdio::write_output(&output, used);
+    stdio::write_output(&rt, &output, used);
 }

@@ -1,4 +1,6 @@
 // Prints the lines of the window test of the table on standard input: document 01, "The table as text".
+#![tactic(auto)]
+
 ghost use Rattle.std.specs.Prelude.{◌≤◌, length};
 ghost use Rattle.text.specs.Output.{Holds};
 ghost use Rattle.lines.specs.declared.Test.TheVariants.{Window};
@@ -18,10 +20,10 @@ fn verdict(output: &mut [u8], text: &[u8]) -> usize
     lines::put_printed(output, text, Test::Window)
 }
 
-fn main() {
+fn main(rt: HostRuntime) {
     let mut input = [0u8; INPUT_ROOM];
     let mut output = [0u8; OUTPUT_ROOM];
-    let n = stdio::read_input(&mut input);
+    let n = stdio::read_input(&rt, &mut input);
     let used = verdict(&mut output, &input[..n]);
-    stdio::write_output(&output, used);
+    stdio::write_output(&rt, &output, used);
 }

@@ -6,10 +6,10 @@ use Rattle.tasks.specs.Limits.{max_tasks}
 use Rattle.bench_slots.proofs.cores_number.Statement.{statement}
 use Rattle.bench_slots.proofs.cores_number.Tie as tie
 
-abbrev invariant-loop : tie.invariant-loop
+abbrev invariant-loop : tie.invariant-loop-i
 invariant-loop assigned number₀ running₀ i₀ number running i = (i ≤ max_tasks) × (running ≤ i * 2 ^ 32) × (number ≤ i * 2 ^ 37)
 
-abbrev decreases-loop : tie.decreases-loop
+abbrev decreases-loop : tie.decreases-loop-i
 decreases-loop assigned number₀ running₀ i₀ number running i = max_tasks - i
 
 pub cores_number_spec : {M : Type 1} → statement M

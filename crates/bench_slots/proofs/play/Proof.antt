@@ -6,10 +6,10 @@ use Rattle.tasks.specs.Limits.{max_tasks}
 use Rattle.bench_slots.proofs.play.Statement.{statement}
 use Rattle.bench_slots.proofs.play.Tie as tie
 
-abbrev invariant-loop : tie.invariant-loop
+abbrev invariant-loop : tie.invariant-loop-number
 invariant-loop count slots table after₀ sum₀ number₀ next₀ after sum number next = (number ≤ slots) × (next ≤ count)
 
-abbrev decreases-loop : tie.decreases-loop
+abbrev decreases-loop : tie.decreases-loop-number
 decreases-loop count slots table after₀ sum₀ number₀ next₀ after sum number next = (max_tasks + 1) * (slots - number) + (count - next)
 
 pub play_spec : {M : Type 1} → statement M

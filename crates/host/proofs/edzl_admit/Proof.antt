@@ -17,59 +17,48 @@ use Rattle.host.proofs.edzl_admit.Tie as tie
 
 -- a text that was refused
 refused :
-    (c : tie.After-number)
-    → (reading c.before.before.before.before.before.before.before.args.text.now).outcome ≡ Refused c.number.given.0.0 c.number.given.0.1.0
-refused c = counted_refused _ _ c.before.before.read-numbers.ensures.0 _ _ c.number.given.1
+    (c : tie.In-Refused)
+    → (reading c.args.text.now).outcome ≡ Refused c.in-Refused.number c.in-Refused.place
+refused c = counted_refused _ _ c.read_numbers.ensures.0 _ _ c.in-Refused.is
 
-add-result : tie.Need-overflow-add-result
-add-result c = omega (arith, reading_below _ _ _ (refused c.before))
+add-result : tie.Need-overflow_add-result
+add-result c = omega (arith, reading_below _ _ _ (refused c))
 
-returns : tie.Need-returns
+returns : tie.Need-returns-in-Refused
 unfolding host_answer answer_after
-returns c = rw (refused c.before)
+returns c = rw (refused c)
 
 -- a text that was read
-was_read : (c : tie.After-count) → CountedRead c.before.before.before.before.before.before.before.args.text.now c.count.given.0.0
-was_read c = counted_read _ _ c.before.before.read-numbers.ensures.0 _ c.count.given.1
+was_read : (c : tie.In-Read) → CountedRead c.args.text.now c.in-Read.count
+was_read c = counted_read _ _ c.read_numbers.ensures.0 _ c.in-Read.is
 
 -- the numbers that are lent make the table that was read
 same_table :
-    (c : tie.After-admit-numbers)
-    → let n = c.before.before.before.before.before in
-    let s = n.before.before.before.before.before.before.before in
-    admission_values_of c.admit-numbers.result ≡ admission (reading s.args.text.now).table s.args.cores
+    (c : tie.After-admit_numbers)
+    → admission_values_of c.admit_numbers.result ≡ admission (reading c.args.text.now).table c.args.cores
 same_table c =
-    let n = c.before.before.before.before.before in
-    let r = n.before.before.read-numbers.ensures.1 in
-    c.admit-numbers.ensures ∙ rw (r.0, r.1.0, r.1.1, (was_read n).again)
+    let r = c.read_numbers.ensures.1 in
+    c.admit_numbers.ensures ∙ rw (r.0, r.1.0, r.1.1, (was_read c.before.before.before.before).again)
 
 told :
-    (c : tie.After-number2)
-    → let n = c.before.before.before.before.before.before.before in
-    let s = n.before.before.before.before.before.before.before in
-    checked (reading s.args.text.now).table s.args.cores ≡ Refused c.number2.given.0.0 c.number2.given.0.1.0
-told c = refused_admission _ _ _ _ (sym (ap admission_values_of c.number2.given.1) ∙ same_table c.before.before)
+    (c : tie.In-Refused-admit_numbers)
+    → checked (reading c.args.text.now).table c.args.cores ≡ Refused c.in-Refused-admit_numbers.number c.in-Refused-admit_numbers.place
+told c = refused_admission _ _ _ _ (sym (ap admission_values_of c.in-Refused-admit_numbers.is) ∙ same_table c.before)
 
-add-result-2 : tie.Need-overflow-add-result-2
-add-result-2 c = omega (arith, checked_below _ _ _ _ (told c.before))
+add-result-2 : tie.Need-overflow_add-result-in-Refused-admit_numbers
+add-result-2 c = omega (arith, checked_below _ _ _ _ (told c))
 
-returns-2 : tie.Need-returns-2
+returns-2 : tie.Need-returns-in-Refused-admit_numbers
 unfolding host_answer answer_after answer_number
 returns-2 c =
-    let v = c.before in
-    let n = v.before.before.before.before.before.before.before in
-    let s = n.before.before.before.before.before.before.before in
-    rw ((was_read n).outcome, admission_outcome (reading s.args.text.now).table s.args.cores, told v)
+    rw ((was_read c.before.before.before.before.before).outcome, admission_outcome (reading c.args.text.now).table c.args.cores, told c)
 
-returns-3 : tie.Need-returns-3
+returns-3 : tie.Need-returns-in-Judged
 unfolding host_answer answer_after answer_number
 returns-3 c =
-    let v = c.before in
-    let a = v.before.before in
-    let n = a.before.before.before.before.before in
-    let admitted = v.admitted.given.0.0 in
-    let j = judged_admission _ _ _ (sym (ap admission_values_of v.admitted.given.1) ∙ same_table a) in
-    rw (was_read n).outcome (bool_byte_lem admitted ∙ sym (ap₂ answer_number j.outcome j.admits_is))
+    let admitted = c.in-Judged.admitted in
+    let j = judged_admission _ _ _ (sym (ap admission_values_of c.in-Judged.is) ∙ same_table c.before) in
+    rw (was_read c.before.before.before.before.before).outcome (bool_byte_lem admitted ∙ sym (ap₂ answer_number j.outcome j.admits_is))
 
 pub edzl_admit_spec : {M : Type 1} → statement M
 edzl_admit_spec =

@@ -8,19 +8,15 @@ use borrow.Author.Rules.{rules}
 use Rattle.lines.proofs.line_numbers.Statement.{statement}
 use Rattle.lines.proofs.line_numbers.Tie as tie
 
-returns : tie.Need-returns
+returns : tie.Need-returns-in-Window
 unfolding line_numbers
 returns c =
-    let k = c.before in
-    let j = k.before in
-    rw (j.before.enum_told.given.1, ← ap (λ (v : Values). v.count) j.judge.ensures, ← ap (λ (v : Values). v.admits) j.judge.ensures, ← k.count.ensures, ← c.admits.ensures, ← bool_byte_lem c.admits.result)
+    rw (c.in-Window.is, ← ap (λ (v : Values). v.count) c.judge-verdict.ensures, ← ap (λ (v : Values). v.admits) c.judge-verdict.ensures, ← c.count-count.ensures, ← c.admits-admits.ensures, ← bool_byte_lem c.admits-admits.result)
 
-returns-2 : tie.Need-returns-2
+returns-2 : tie.Need-returns-in-Slack
 unfolding line_numbers
 returns-2 c =
-    let k = c.before in
-    let j = k.before in
-    rw (j.before.enum-told2.given.1, ← ap (λ (v : SlackValues). v.rounds) j.judge-by-slack.ensures, ← ap (λ (v : SlackValues). v.admits) j.judge-by-slack.ensures, ← k.rounds.ensures, ← c.admits2.ensures, ← bool_byte_lem c.admits2.result)
+    rw (c.in-Slack.is, ← ap (λ (v : SlackValues). v.rounds) c.judge_by_slack-verdict.ensures, ← ap (λ (v : SlackValues). v.admits) c.judge_by_slack-verdict.ensures, ← c.rounds-rounds.ensures, ← c.admits-admits-in-Slack.ensures, ← bool_byte_lem c.admits-admits-in-Slack.result)
 
 pub line_numbers_spec : {M : Type 1} → statement M
 line_numbers_spec =

@@ -4,17 +4,15 @@ use borrow.Author.Rules.{rules}
 use Rattle.lines.proofs.put_header.Statement.{statement}
 use Rattle.lines.proofs.put_header.Tie as tie
 
-returns : tie.Need-returns
+returns : tie.Need-returns-in-Window
 unfolding header
 returns c =
-    let p = c.before.before in
-    rw p.before.before.before.enum_told.given.1 p.put.ensures
+    rw c.in-Window.is c.put.ensures
 
-returns-2 : tie.Need-returns-2
+returns-2 : tie.Need-returns-in-Slack
 unfolding header
 returns-2 c =
-    let p = c.before.before in
-    rw p.before.before.before.enum-told2.given.1 p.put2.ensures
+    rw c.in-Slack.is c.put-in-Slack.ensures
 
 pub put_header_spec : {M : Type 1} → statement M
 put_header_spec =
@@ -22,10 +20,8 @@ put_header_spec =
     (tie.spec
     (λ c. search rules)
     (λ c. search rules)
-    (λ c κs. search rules)
     (λ c. search rules)
     (λ c. search rules)
-    (λ c κs. search rules)
     (λ c. search rules)
     returns
     (λ c. search rules)

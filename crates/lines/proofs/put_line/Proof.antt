@@ -7,8 +7,7 @@ use Rattle.lines.proofs.put_line.Tie as tie
 returns : tie.Need-returns
 unfolding verdict_line
 returns c =
-    let n = c.before.before in
-    rw n.before.before.before.line-numbers.ensures at n.put-numbers.ensures
+    rw c.line_numbers-numbers.ensures at c.put_numbers.ensures
 
 pub put_line_spec : {M : Type 1} → statement M
 put_line_spec =

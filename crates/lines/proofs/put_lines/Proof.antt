@@ -11,38 +11,32 @@ use Rattle.lines.specs.Printed.{verdict_line, lines_up_to}
 use Rattle.lines.proofs.put_lines.Statement.{statement}
 use Rattle.lines.proofs.put_lines.Tie as tie
 
-abbrev invariant-loop : tie.invariant-loop
+abbrev invariant-loop : tie.invariant-loop-cores
 invariant-loop output₀ test table last used₀ cores₀ output used cores = (cores ≤ last) × Put output₀ used₀ (lines_up_to (verdict_line test table) cores) output used
 
-abbrev decreases-loop : tie.decreases-loop
+abbrev decreases-loop : tie.decreases-loop-cores
 decreases-loop output₀ test table last used₀ cores₀ output used cores = last - cores
 
-loop-holds : tie.Need-loop-init invariant-loop decreases-loop
+loop-holds : tie.Need-loop-cores-init invariant-loop decreases-loop
 unfolding lines_up_to
 loop-holds c = (omega arith, put_none _ _)
 
-add-cores : tie.Need-overflow-add-cores invariant-loop decreases-loop
-add-cores c = omega (arith, c.before.before.before.before.before.before.last-cores.ensures)
+add-cores : tie.Need-overflow_add-cores invariant-loop decreases-loop
+add-cores c = omega (arith, c.last_cores-last.ensures)
 
-loop-again : tie.Need-loop-preserved invariant-loop decreases-loop
+loop-again : tie.Need-loop-cores-preserved invariant-loop decreases-loop
 unfolding lines_up_to
 loop-again c =
-    let p = c.before.before in
-    let l = p.before.before.before in
-    (omega arith, rw (add-one l.loop.cores) (put_then _ _ _ _ _ l.loop.invariant.1 _ _ _ (rw (add-one l.loop.cores) at p.put-line.ensures)))
+    (omega arith, rw (add-one c.loop-cores.cores) (put_then _ _ _ _ _ c.loop-cores.invariant.1 _ _ _ (rw (add-one c.loop-cores.cores) at c.put_line-used.ensures)))
 
-same_length : tie.Need-same-length invariant-loop decreases-loop
+same_length : tie.Need-shape_of-output invariant-loop decreases-loop
 same_length c =
-    let l = c.before in
-    put_size _ _ _ _ _ l.loop.invariant.1 ∙ put_size _ _ _ _ _ l.before.before.before.put-header.ensures
+    put_size _ _ _ _ _ c.loop-cores.invariant.1 ∙ put_size _ _ _ _ _ c.put_header-used.ensures
 
 returns : tie.Need-returns invariant-loop decreases-loop
 returns c =
-    let l = c.before in
-    let p = l.before.before.before in
-    let n = p.before.before in
-    let e : l.loop.cores ≡ min max_cores n.before.before.args.table.count = omega (arith, n.last-cores.ensures) in
-    rw (← e) (put_then _ _ _ _ _ p.put-header.ensures _ _ _ l.loop.invariant.1)
+    let e : c.loop-cores.cores ≡ min max_cores c.args.table.count = omega (arith, c.last_cores-last.ensures) in
+    rw (← e) (put_then _ _ _ _ _ c.put_header-used.ensures _ _ _ c.loop-cores.invariant.1)
 
 pub put_lines_spec : {M : Type 1} → statement M
 put_lines_spec =

@@ -4,19 +4,15 @@ use borrow.Author.Rules.{rules}
 use Rattle.lines.proofs.put_printed.Statement.{statement}
 use Rattle.lines.proofs.put_printed.Tie as tie
 
-returns : tie.Need-returns
+returns : tie.Need-returns-in-Refused
 unfolding printed printed_after
 returns c =
-    let p = c.before.before in
-    let o = p.before.before.before in
-    rw (← o.before.before.read.ensures, o.outcome.given.1) p.Put-refused.ensures
+    rw (← c.read-answer.ensures, c.in-Refused.is) c.put_refused.ensures
 
-returns-2 : tie.Need-returns-2
+returns-2 : tie.Need-returns
 unfolding printed printed_after
 returns-2 c =
-    let p = c.before.before in
-    let o = p.before.before.before in
-    rw (← o.before.before.read.ensures, o.enum_told.given.1) p.put-lines.ensures
+    rw (← c.read-answer.ensures, c.in_default.is) c.put_lines.ensures
 
 pub put_printed_spec : {M : Type 1} → statement M
 put_printed_spec =

@@ -23,12 +23,8 @@ table_is e t₁ t₂ t₃ p q₁ q₂ q₃ = rw (p, q₁, q₂, q₃)
 returns : tie.Need-returns
 unfolding case_j
 returns c =
-    let s = c.before.before in
-    let t₃ = s.before in
-    let t₂ = t₃.before in
-    let t₁ = t₂.before in
-    session_lines (task 6 2 3 ∷ task 6 2 3 ∷ task 6 5 6 ∷ []) 2 6 _ _ _ c.released.ensures s.start.ensures.is
-    (table_is _ _ _ _ t₁.before.empty.ensures t₁.task.ensures t₂.task2.ensures t₃.task3.ensures)
+    session_lines (task 6 2 3 ∷ task 6 2 3 ∷ task 6 5 6 ∷ []) 2 6 _ _ _ c.released.ensures c.start-answer.ensures.is
+    (table_is _ _ _ _ c.empty-table.ensures c.task.ensures c.task-2.ensures c.task-3.ensures)
 
 pub case_j_spec : {M : Type 1} → statement M
 case_j_spec =

@@ -23,11 +23,8 @@ table_is e t₁ t₂ p q₁ q₂ = rw (p, q₁, q₂)
 returns : tie.Need-returns
 unfolding case_k
 returns c =
-    let s = c.before.before in
-    let t₂ = s.before in
-    let t₁ = t₂.before in
-    session_lines (task 5 5 5 ∷ task 5 5 5 ∷ []) 1 5 _ _ _ c.released.ensures s.start.ensures.is
-    (table_is _ _ _ t₁.before.empty.ensures t₁.task.ensures t₂.task2.ensures)
+    session_lines (task 5 5 5 ∷ task 5 5 5 ∷ []) 1 5 _ _ _ c.released.ensures c.start-answer.ensures.is
+    (table_is _ _ _ c.empty-table.ensures c.task.ensures c.task-2.ensures)
 
 pub case_k_spec : {M : Type 1} → statement M
 case_k_spec =

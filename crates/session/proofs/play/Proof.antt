@@ -7,29 +7,26 @@ use Rattle.session.proofs.Playing.{Playing, play_none, play_more, play_all}
 use Rattle.session.proofs.play.Statement.{statement}
 use Rattle.session.proofs.play.Tie as tie
 
-abbrev invariant-loop : tie.invariant-loop
+abbrev invariant-loop : tie.invariant-loop-number
 invariant-loop output₀ used machine₀ cores slots at₀ number₀ output machine at number =
     Playing output₀ used machine₀ cores slots output at machine number
 
-abbrev decreases-loop : tie.decreases-loop
+abbrev decreases-loop : tie.decreases-loop-number
 decreases-loop output₀ used machine₀ cores slots at₀ number₀ output machine at number = slots - number
 
-loop-holds : tie.Need-loop-init invariant-loop decreases-loop
+loop-holds : tie.Need-loop-number-init invariant-loop decreases-loop
 loop-holds c = play_none _ _ _ _ _
 
-loop-again : tie.Need-loop-preserved invariant-loop decreases-loop
+loop-again : tie.Need-loop-number-preserved invariant-loop decreases-loop
 loop-again c =
-    let p = c.before.before.before in
-    let s = p.before.before.before in
-    let t = s.before in
-    rw s.slot.ensures
-    (play_more _ _ _ _ _ _ _ _ _ t.before.loop.invariant t.loop-test.true _ _ (rw s.slot.ensures at p.put-slot.ensures))
+    rw c.slot-answer.ensures
+    (play_more _ _ _ _ _ _ _ _ _ c.loop-number.invariant c.loop-number-test.true _ _ (rw c.slot-answer.ensures at c.put_slot-at.ensures))
 
-same_length : tie.Need-same-length invariant-loop decreases-loop
-same_length c = put_size _ _ _ _ _ c.before.loop.invariant.lines.put
+same_length : tie.Need-shape_of-output invariant-loop decreases-loop
+same_length c = put_size _ _ _ _ _ c.loop-number.invariant.lines.put
 
 returns : tie.Need-returns invariant-loop decreases-loop
-returns c = play_all _ _ _ _ _ _ _ _ _ c.before.loop.invariant c.loop-test.false
+returns c = play_all _ _ _ _ _ _ _ _ _ c.loop-number.invariant c.loop-number-test.false
 
 pub play_spec : {M : Type 1} → statement M
 play_spec =

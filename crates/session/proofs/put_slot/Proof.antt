@@ -7,9 +7,7 @@ use Rattle.session.proofs.put_slot.Tie as tie
 returns : tie.Need-returns
 unfolding slot_line
 returns c =
-    let n = c.before.before in
-    let m = n.before.before.before in
-    rw (← m.before.before.mask.ensures, ← m.before.mask2.ensures, ← m.mask3.ensures) n.put-numbers.ensures
+    rw (← c.mask.ensures, ← c.mask-2.ensures, ← c.mask-3.ensures) c.put_numbers.ensures
 
 pub put_slot_spec : {M : Type 1} → statement M
 put_slot_spec =

@@ -9,27 +9,24 @@ use Rattle.session.proofs.Playing.{Released, released_none, released_more}
 use Rattle.session.proofs.released.Statement.{statement}
 use Rattle.session.proofs.released.Tie as tie
 
-abbrev invariant-loop : tie.invariant-loop
+abbrev invariant-loop : tie.invariant-loop-number
 invariant-loop machine₀ count table number₀ machine number = (number ≤ count) × Released machine₀ table number machine
 
-abbrev decreases-loop : tie.decreases-loop
+abbrev decreases-loop : tie.decreases-loop-number
 decreases-loop machine₀ count table number₀ machine number = count - number
 
-loop-holds : tie.Need-loop-init invariant-loop decreases-loop
+loop-holds : tie.Need-loop-number-init invariant-loop decreases-loop
 loop-holds c = (omega arith, released_none _ _)
 
-loop-again : tie.Need-loop-preserved invariant-loop decreases-loop
+loop-again : tie.Need-loop-number-preserved invariant-loop decreases-loop
 unfolding zero_task
 loop-again c =
-    let r = c.before in
-    let l = r.before.before.before in
-    (omega arith, rw (r.release.ensures, add-one l.loop.number) (released_more _ _ _ _ l.loop.invariant.1))
+    (omega arith, rw (c.release-answer.ensures, add-one c.loop-number.number) (released_more _ _ _ _ c.loop-number.invariant.1))
 
 returns : tie.Need-returns invariant-loop decreases-loop
 returns c =
-    let l = c.before in
-    let e : l.loop.number ≡ l.before.args.count = omega arith in
-    rw e at l.loop.invariant.1
+    let e : c.loop-number.number ≡ c.args.count = omega arith in
+    rw e at c.loop-number.invariant.1
 
 pub released_spec : {M : Type 1} → statement M
 released_spec =

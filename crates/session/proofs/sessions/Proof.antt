@@ -24,9 +24,7 @@ both a b d s t v w p q e f h =
 
 returns : tie.Need-returns
 returns c =
-    let k = c.before.before in
-    let j = k.before.before.before.before.before in
-    both _ _ _ _ _ _ _ j.play.ensures k.play2.ensures j.before.case-j.ensures k.before.case-k.ensures j.before.before.before.before.requires
+    both _ _ _ _ _ _ _ c.play-used.ensures c.play.ensures c.case_j.ensures c.case_k.ensures c.requires
 
 pub sessions_spec : {M : Type 1} → statement M
 sessions_spec =

@@ -9,4 +9,5 @@ unfolding task
 returns c = refl
 
 pub task_spec : {M : Type 1} → statement M
-task_spec = tie.close (tie.spec returns)
+task_spec = tie.close (tie.spec
+    returns)

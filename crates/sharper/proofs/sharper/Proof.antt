@@ -6,8 +6,7 @@ use Rattle.sharper.proofs.sharper.Tie as tie
 
 returns : tie.Need-returns
 returns c =
-    let p = c.before.before in
-    printed_held_lem _ _ _ _ _ p.before.before.before.before.requires p.put-printed.ensures
+    printed_held_lem _ _ _ _ _ c.requires c.put_printed.ensures
 
 pub sharper_spec : {M : Type 1} → statement M
 sharper_spec = tie.close

@@ -9,23 +9,21 @@ use Rattle.text.proofs.Putting.{put_size}
 use Rattle.test_reading.proofs.put_tasks.Statement.{statement}
 use Rattle.test_reading.proofs.put_tasks.Tie as tie
 
-abbrev invariant-loop : tie.invariant-loop
+abbrev invariant-loop : tie.invariant-loop-i
 invariant-loop output₀ used tasks at₀ i₀ output at i = (i ≤ max_tasks) × (length output ≡ length output₀)
 
-abbrev decreases-loop : tie.decreases-loop
+abbrev decreases-loop : tie.decreases-loop-i
 decreases-loop output₀ used tasks at₀ i₀ output at i = max_tasks - i
 
-loop-holds : tie.Need-loop-init invariant-loop decreases-loop
+loop-holds : tie.Need-loop-i-init invariant-loop decreases-loop
 loop-holds c = (omega arith, refl)
 
-loop-again : tie.Need-loop-preserved invariant-loop decreases-loop
+loop-again : tie.Need-loop-i-preserved invariant-loop decreases-loop
 loop-again c =
-    let p = c.before.before in
-    let l = p.before.before.before.before.before.before.before.before in
-    (omega arith, put_size _ _ _ _ _ p.put-numbers.ensures ∙ l.loop.invariant.1)
+    (omega arith, put_size _ _ _ _ _ c.put_numbers-at.ensures ∙ c.loop-i.invariant.1)
 
-same_length : tie.Need-same-length invariant-loop decreases-loop
-same_length c = c.before.loop.invariant.1
+same_length : tie.Need-shape_of-output invariant-loop decreases-loop
+same_length c = c.loop-i.invariant.1
 
 pub put_tasks_spec : {M : Type 1} → statement M
 put_tasks_spec =

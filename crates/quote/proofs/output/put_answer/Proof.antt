@@ -5,29 +5,25 @@ use borrow.Author.Rules.{rules}
 use Rattle.quote.proofs.output.put_answer.Statement.{statement}
 use Rattle.quote.proofs.output.put_answer.Tie as tie
 
-returns : tie.Need-returns
+returns : tie.Need-returns-in-All
 unfolding answer_word quote_values_of
 returns c =
-    let p = c.before.before in
-    rw p.before.before.before.enum_told.given.1 p.put.ensures
+    rw c.in-All.is c.put.ensures
 
-returns-2 : tie.Need-returns-2
+returns-2 : tie.Need-returns-in-Some
 unfolding answer_word quote_values_of
 returns-2 c =
-    let p = c.before.before in
-    rw p.before.before.before.enum-told2.given.1 p.put2.ensures
+    rw c.in-Some.is c.put-in-Some.ensures
 
-returns-3 : tie.Need-returns-3
+returns-3 : tie.Need-returns-in-None
 unfolding answer_word quote_values_of
 returns-3 c =
-    let p = c.before.before in
-    rw p.before.before.before.enum-told3.given.1 p.put3.ensures
+    rw c.in-None.is c.put-in-None.ensures
 
-returns-4 : tie.Need-returns-4
+returns-4 : tie.Need-returns-in-Refused
 unfolding answer_word quote_values_of refused_quote
 returns-4 c =
-    let p = c.before.before in
-    rw p.before.before.before.enum-told4.given.1 p.put4.ensures
+    rw c.in-Refused.is c.put-in-Refused.ensures
 
 pub put_answer_spec : {M : Type 1} → statement M
 put_answer_spec =
@@ -35,16 +31,12 @@ put_answer_spec =
     (tie.spec
     (λ c. search rules)
     (λ c. search rules)
-    (λ c κs. search rules)
     (λ c. search rules)
     (λ c. search rules)
-    (λ c κs. search rules)
     (λ c. search rules)
     (λ c. search rules)
-    (λ c κs. search rules)
     (λ c. search rules)
     (λ c. search rules)
-    (λ c κs. search rules)
     (λ c. search rules)
     returns
     (λ c. search rules)

@@ -8,20 +8,16 @@ use Rattle.quote.proofs.output.put_line.Tie as tie
 returns : tie.Need-returns
 unfolding quote_line
 returns c =
-    let a = c.before.before in
-    let s = a.before.before.before.before in
-    let n = s.before.before.before.before.before in
-    rw (← n.before.before.judge-ranges.ensures.0)
-    (put_then _ _ _ _ _ n.put-number.ensures _ _ _ (put_then _ _ _ _ _ s.put.ensures _ _ _ a.put-answer.ensures))
+    rw (← c.judge_ranges-quote.ensures.0)
+    (put_then _ _ _ _ _ c.put_number-at.ensures _ _ _ (put_then _ _ _ _ _ c.put-at.ensures _ _ _ c.put_answer.ensures))
 
 pub put_line_spec : {M : Type 1} → statement M
 put_line_spec =
     tie.close
     (tie.spec
-    (λ c κs. search rules)
-    (λ c κs. search rules)
     (λ c. search rules)
-    (λ c κs. search rules)
-    (λ c κs. search rules)
+    (λ c. search rules)
+    (λ c. search rules)
+    (λ c. search rules)
     (λ c. search rules)
     returns)

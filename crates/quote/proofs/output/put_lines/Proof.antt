@@ -12,45 +12,33 @@ use Rattle.quote.specs.Printed.{header, quote_line}
 use Rattle.quote.proofs.output.put_lines.Statement.{statement}
 use Rattle.quote.proofs.output.put_lines.Tie as tie
 
-abbrev invariant-loop : tie.invariant-loop
+abbrev invariant-loop : tie.invariant-loop-cores
 invariant-loop output₀ table last used₀ cores₀ output used cores = (cores ≤ last) × Put output₀ used₀ (lines_up_to (quote_line table) cores) output used
 
-abbrev decreases-loop : tie.decreases-loop
+abbrev decreases-loop : tie.decreases-loop-cores
 decreases-loop output₀ table last used₀ cores₀ output used cores = last - cores
 
-loop-holds : tie.Need-loop-init invariant-loop decreases-loop
+loop-holds : tie.Need-loop-cores-init invariant-loop decreases-loop
 unfolding lines_up_to
 loop-holds c = (omega arith, put_none _ _)
 
--- where the lines begin
-abbrev begun : tie.At-loop invariant-loop decreases-loop → tie.After-put invariant-loop decreases-loop
-begun c = c.before.before.before
+add-cores : tie.Need-overflow_add-cores invariant-loop decreases-loop
+add-cores c = omega (arith, c.last_cores-last.ensures)
 
--- the largest number of cores that has a line
-abbrev asked : tie.At-loop invariant-loop decreases-loop → tie.After-last-cores invariant-loop decreases-loop
-asked c = (begun c).before.before.before
-
-add-cores : tie.Need-overflow-add-cores invariant-loop decreases-loop
-add-cores c = omega (arith, (asked c.before).last-cores.ensures)
-
-loop-again : tie.Need-loop-preserved invariant-loop decreases-loop
+loop-again : tie.Need-loop-cores-preserved invariant-loop decreases-loop
 unfolding lines_up_to
 loop-again c =
-    let p = c.before.before in
-    let l = p.before.before.before in
-    (omega arith, rw (add-one l.loop.cores) (put_then _ _ _ _ _ l.loop.invariant.1 _ _ _ (rw (add-one l.loop.cores) at p.put-line.ensures)))
+    (omega arith, rw (add-one c.loop-cores.cores) (put_then _ _ _ _ _ c.loop-cores.invariant.1 _ _ _ (rw (add-one c.loop-cores.cores) at c.put_line-used.ensures)))
 
-same_length : tie.Need-same-length invariant-loop decreases-loop
+same_length : tie.Need-shape_of-output invariant-loop decreases-loop
 same_length c =
-    let l = c.before in
-    put_size _ _ _ _ _ l.loop.invariant.1 ∙ put_size _ _ _ _ _ (begun l).put.ensures
+    put_size _ _ _ _ _ c.loop-cores.invariant.1 ∙ put_size _ _ _ _ _ c.put-used.ensures
 
 returns : tie.Need-returns invariant-loop decreases-loop
 unfolding header
 returns c =
-    let l = c.before in
-    let e : l.loop.cores ≡ min max_cores (asked l).before.before.args.table.count = omega (arith, (asked l).last-cores.ensures) in
-    rw (← e) (put_then _ _ _ _ _ (begun l).put.ensures _ _ _ l.loop.invariant.1)
+    let e : c.loop-cores.cores ≡ min max_cores c.args.table.count = omega (arith, c.last_cores-last.ensures) in
+    rw (← e) (put_then _ _ _ _ _ c.put-used.ensures _ _ _ c.loop-cores.invariant.1)
 
 pub put_lines_spec : {M : Type 1} → statement M
 put_lines_spec =
@@ -58,13 +46,12 @@ put_lines_spec =
     (tie.spec
     invariant-loop
     decreases-loop
-    (λ c κs. search rules)
     (λ c. search rules)
-    (λ c κs. search rules)
+    (λ c. search rules)
     loop-holds
     add-cores
-    (λ c κs. search rules)
-    (λ c. omega arith)
+    (λ c. search rules)
+    (λ c. search rules)
     loop-again
     same_length
     returns)

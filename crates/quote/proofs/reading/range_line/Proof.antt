@@ -9,27 +9,19 @@ use Rattle.quote.proofs.RangeLine.{unended, not_five, line_read}
 use Rattle.quote.proofs.reading.range_line.Statement.{statement}
 use Rattle.quote.proofs.reading.range_line.Tie as tie
 
-returns : tie.Need-returns
-returns c = unended _ _ c.before.find.ensures c.if1.true
+returns : tie.Need-returns-then-text-length
+returns c = unended _ _ c.find-length.ensures c.if-text-length.true
 
-slice-aggregate-fill-from-line : tie.Need-slice-aggregate-fill-from-line
-slice-aggregate-fill-from-line c = sym (length-take-le _ _ (le_of_lt c.before.if1.false))
+slice-aggregate-fill-from-line : tie.Need-slice_bounds-fill_from_line-end
+slice-aggregate-fill-from-line c = sym (length-take-le _ _ (le_of_lt c.if-text-length.false))
 
--- where the values of the line are read
-abbrev line_of : tie.After-fill-from-line → tie.Else1
-line_of c = c.before.before.before
-
-returns-2 : tie.Need-returns-2
+returns-2 : tie.Need-returns-then-not-fill_from_line
 returns-2 c =
-    let n = c.before.before in
-    let d = line_of n in
-    not_five _ _ d.before.find.ensures d.if1.left (was_false n.fill-from-line.ensures.is c.if2.true)
+    not_five _ _ c.find-length.ensures c.if-text-length.false (was_false c.fill_from_line.ensures.is c.if-not-fill_from_line.true-raw)
 
-returns-3 : tie.Need-returns-3
+returns-3 : tie.Need-returns
 returns-3 c =
-    let n = c.before.before in
-    let d = line_of n in
-    line_read _ _ d.before.find.ensures d.if1.left _ (rw (not-false n.fill-from-line.result c.if2.false) at n.fill-from-line.ensures)
+    line_read _ _ c.find-length.ensures c.if-text-length.false _ (rw (not-false c.fill_from_line.result c.if-not-fill_from_line.false-raw) at c.fill_from_line.ensures)
 
 pub range_line_spec : {M : Type 1} → statement M
 range_line_spec =

@@ -8,37 +8,25 @@ use Rattle.quote.proofs.NamesLine.{too_long, names_unended, not_names, names_rea
 use Rattle.quote.proofs.reading.read.Statement.{statement}
 use Rattle.quote.proofs.reading.read.Tie as tie
 
-returns : tie.Need-returns
-returns c = c.refused-reading.ensures ∙ too_long _ c.before.if1.true
+returns : tie.Need-returns-then-text-gt-MAX_TEXT_LENGTH
+returns c = c.refused_reading.ensures ∙ too_long _ c.if-text-gt-MAX_TEXT_LENGTH.true
 
-returns-2 : tie.Need-returns-2
+returns-2 : tie.Need-returns-then-text-length
 returns-2 c =
-    let f = c.before.before in
-    c.refused-reading2.ensures ∙ names_unended _ f.before.if1.false _ f.find.ensures c.before.if2.true
+    c.refused_reading-then-text-length.ensures ∙ names_unended _ c.if-text-gt-MAX_TEXT_LENGTH.false _ c.find-length.ensures c.if-text-length.true
 
--- where the line ends
-abbrev line_of : tie.After-same → tie.Else2
-line_of c = c.before.before.before.before
+slice-aggregate-same : tie.Need-slice_bounds-same-end
+slice-aggregate-same c = sym (length-take-le _ _ (le_of_lt c.if-text-length.false))
 
-slice-aggregate-same : tie.Need-slice-aggregate-same
-slice-aggregate-same c = sym (length-take-le _ _ (le_of_lt c.before.before.if2.false))
-
-returns-3 : tie.Need-returns-3
+returns-3 : tie.Need-returns-then-not-same
 returns-3 c =
-    let n = c.before.before in
-    let d = line_of n in
-    let f = d.before in
-    c.refused-reading3.ensures
-    ∙ not_names _ f.before.if1.left _ f.find.ensures d.if2.left (was_false n.same.ensures c.before.if3.true)
+    c.refused_reading-then-not-same.ensures
+    ∙ not_names _ c.if-text-gt-MAX_TEXT_LENGTH.false _ c.find-length.ensures c.if-text-length.false (was_false c.same.ensures c.if-not-same.true-raw)
 
-returns-4 : tie.Need-returns-4
+returns-4 : tie.Need-returns
 returns-4 c =
-    let e = c.before.before in
-    let n = e.before in
-    let d = line_of n in
-    let f = d.before in
-    c.range-lines.ensures
-    ∙ names_read _ f.before.if1.left _ f.find.ensures d.if2.left (was_true n.same.ensures e.if3.false)
+    c.range_lines.ensures
+    ∙ names_read _ c.if-text-gt-MAX_TEXT_LENGTH.false _ c.find-length.ensures c.if-text-length.false (was_true c.same.ensures c.if-not-same.false-raw)
 
 pub read_spec : {M : Type 1} → statement M
 read_spec =

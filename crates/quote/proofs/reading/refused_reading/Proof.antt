@@ -6,7 +6,9 @@ use Rattle.quote.proofs.reading.refused_reading.Tie as tie
 
 returns : tie.Need-returns
 unfolding refused
-returns c = rw c.empty.ensures
+returns c = rw c.empty-table.ensures
 
 pub refused_reading_spec : {M : Type 1} → statement M
-refused_reading_spec = tie.close (tie.spec (λ c κs. search rules) returns)
+refused_reading_spec = tie.close (tie.spec
+    (λ c κs. search rules)
+    returns)

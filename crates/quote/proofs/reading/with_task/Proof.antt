@@ -10,4 +10,8 @@ unfolding with_ranged_task
 returns c = refl
 
 pub with_task_spec : {M : Type 1} → statement M
-with_task_spec = tie.close (tie.spec (λ c. search rules) (λ c. search rules) (λ c. search rules) returns)
+with_task_spec = tie.close (tie.spec
+    (λ c. search rules)
+    (λ c. search rules)
+    (λ c. search rules)
+    returns)
