@@ -19,7 +19,6 @@ use Rattle.machine.specs.declared.machine.Machine.{Machine}
 use Rattle.script.specs.Numbers.{max_digits, max_number}
 use Rattle.script.specs.Calls.{fields_task, call_of}
 use Rattle.script.specs.declared.calls.CallLine.{CallLine}
-use Rattle.script.specs.declared.calls.CallLine.TheVariants as CallLine
 use Rattle.script.proofs.CallLaws.{longest_call, call_short}
 use Rattle.tasks.specs.Limits.{max_tasks}
 use Rattle.probe.specs.Words.{machine_word, none_word, held_word}

@@ -17,16 +17,13 @@ use Rattle.machine.specs.declared.machine.Machine.{Machine}
 use Rattle.script.specs.Numbers.{max_digits, max_number}
 use Rattle.script.specs.Calls.{fields_task, call_of}
 use Rattle.script.specs.declared.calls.CallLine.{CallLine}
-use Rattle.script.specs.declared.calls.CallLine.TheVariants as CallLine
 use Rattle.probe.specs.Words.{machine_word, none_word, held_word}
 use Rattle.probe.specs.declared.input.FirstLine.{FirstLine}
 use Rattle.probe.specs.declared.input.FirstLine.TheVariants as First
 use Rattle.probe.specs.declared.input.EntryLine.{EntryLine}
 use Rattle.probe.specs.declared.input.EntryLine.TheVariants as Entry
 use Rattle.probe.specs.declared.input.HeldLine.{HeldLine}
-use Rattle.probe.specs.declared.input.HeldLine.TheVariants as HeldLine
 use Rattle.probe.specs.declared.input.Asked.{Asked}
-use Rattle.probe.specs.declared.input.Asked.TheVariants as Asked
 
 -- "`MACHINE count cores`", where "count and cores are such numbers"
 unfoldable pub is_machine_line : List ℕ → Bool

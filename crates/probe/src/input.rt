@@ -23,7 +23,7 @@ const HELD_NUMBER: usize = 1 + MAX_TASKS + 1;
 const CALL_NUMBER: usize = HELD_NUMBER + 1;
 
 // The line of the count and the cores.
-#[derive(Drop)]
+#[derive(Clone, Copy)]
 enum FirstLine {
     Read {
         count: u32,
@@ -34,7 +34,7 @@ enum FirstLine {
 }
 
 // The line of an entry.
-#[derive(Drop)]
+#[derive(Clone, Copy)]
 enum EntryLine {
     Read {
         task: Task,
@@ -46,21 +46,21 @@ enum EntryLine {
 }
 
 // The line of what the machine holds.
-#[derive(Drop)]
+#[derive(Clone, Copy)]
 enum HeldLine {
     Read { held: Held, length: usize },
     Bad,
 }
 
 // The call that a text asks for, or the number of its first bad line.
-#[derive(Drop)]
+#[derive(Clone, Copy)]
 pub enum Asked {
     Read(Call),
     Bad(usize),
 }
 
 // The machine of a text, as far as it was read, and the call on it.
-#[derive(Drop)]
+#[derive(Clone, Copy)]
 pub struct Input {
     pub machine: Machine,
     pub asked: Asked,

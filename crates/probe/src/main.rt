@@ -1,4 +1,6 @@
 // Probes one call: makes it on the machine of the input, and prints its answer and the machine after it.
+#![tactic(auto)]
+
 use crate::input::Asked;
 use crate::output::MACHINE_ROOM;
 use machine::call::Call;
@@ -45,14 +47,14 @@ fn probe(text: &[u8], output: &mut [u8]) -> usize
 }
 
 // Reads a text into one array and writes what is printed for it from the other.
-fn print(space: [u8; INPUT_ROOM], room: [u8; OUTPUT_ROOM]) {
+fn print(rt: &HostRuntime, space: [u8; INPUT_ROOM], room: [u8; OUTPUT_ROOM]) {
     let mut text = space;
     let mut output = room;
-    let n = stdio::read_input(&mut text);
+    let n = stdio::read_input(rt, &mut text);
     let used = probe(&text[..n], &mut output);
-    stdio::write_output(&output, used);
+    stdio::write_output(rt, &output, used);
 }
 
-fn main() {
-    print([0; INPUT_ROOM], [0; OUTPUT_ROOM]);
+fn main(rt: HostRuntime) {
+    print(&rt, [0; INPUT_ROOM], [0; OUTPUT_ROOM]);
 }

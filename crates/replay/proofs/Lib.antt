@@ -1,3 +1,4 @@
+pub mod CallsStart
 pub mod Playing
 pub mod ScriptLaws
 pub mod ExamplesHold

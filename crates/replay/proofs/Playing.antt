@@ -1,5 +1,5 @@
 -- One turn over the lines of calls. Others cite `answered`, the answers to a text; `Playing`, the state between two lines, with `play_none`, `play_more` and
--- `shorter`; and what the whole output is where it stops: `play_all`, `not_ended_lem` and `no_call`.
+-- `shorter`; and what the whole output is where it stops: `play_all`, `not_ended` and `no_call`.
 use Prim.Native.Nat.{ℕ, ◌+◌, ◌*◌, ◌≤◌, ◌<◌}
 use native.Mathlib.Omega.{arith}
 use mathlib.Core.Path.{◌≡◌, ap, ◌∙◌}
@@ -48,9 +48,9 @@ module _ (a whole b : List ℕ) (v : ℕ) (m : Machine) (n : ℕ) (s : List ℕ)
     stopped e =
         record { put = partly_last a 0 whole b v (bad_line n) (rw e at p.left) c w g.put; few = omega (arith, ap length e, p.few, g.few) }
 
-    pub not_ended_lem : (k : ℕ) → k ≡ length (before line_end s) → 0 < length s → length s ≤ k → PutWithin (most + refusal_room) a 0 whole c w
+    pub not_ended : (k : ℕ) → k ≡ length (before line_end s) → 0 < length s → length s ≤ k → PutWithin (most + refusal_room) a 0 whole c w
     unfolding answer_lines
-    not_ended_lem k e h l =
+    not_ended k e h l =
         let z : has line_end s ≡ false = hasnt_of line_end s (rw e at l) in
         stopped (rw (lines_none s z, unended_all s z, some_bytes s h))
 

@@ -10,10 +10,9 @@ use Rattle.text.specs.Lines.{line_end, has, before}
 use Rattle.text.specs.Number.{number_after}
 use Rattle.text.specs.declared.number.Number.TheVariants.{Read, Broken}
 use Rattle.text.proofs.Split.{cut, hasnt_of}
-use Rattle.script.specs.Words.{cores_word}
-use Rattle.replay.specs.Words.{calls_word}
+use Rattle.replay.specs.Words.{cores_word}
 use Rattle.script.specs.Numbers.{max_digits, max_number}
-use Rattle.script.specs.WordLine.{word_line}
+use Rattle.replay.specs.Calls.{calls_start}
 use Rattle.script.specs.Output.{bad_line}
 use Rattle.replay.specs.Script.{max_script_length, printed_after_cores, printed_after_first, printed}
 
@@ -30,7 +29,7 @@ module _ (s : List ℕ) (h : length s ≤ max_script_length) (k : ℕ) (e : k �
         rw (le-ltb max_script_length (length s) h, d.is, ← d.front, b)
 
     pub first_read :
-        (cores : ℕ) → number_after max_digits max_number cores_word (take k s) ≡ Read cores → printed s ≡ printed_after_cores (word_line calls_word (past s k)) cores (past s k)
+        (cores : ℕ) → number_after max_digits max_number cores_word (take k s) ≡ Read cores → printed s ≡ printed_after_cores (calls_start (past s k)) cores (past s k)
     unfolding printed printed_after_first
     first_read cores b =
         let d = cut line_end s k e l in

@@ -4,7 +4,6 @@ use Rattle.text.specs.Lines.{line_end, has, before, after, lines, unended, is_em
 use Rattle.text.specs.Number.{number_after}
 use Rattle.text.specs.Output.{refused_line}
 use Rattle.text.specs.declared.number.Number.{Number}
-use Rattle.text.specs.declared.number.Number.TheVariants as Number
 use Rattle.reader.specs.Reading.{reading}
 use Rattle.tasks.specs.Refusals.{text_too_long}
 use Rattle.tasks.specs.declared.outcome.Outcome.{Outcome}
@@ -17,12 +16,10 @@ use Rattle.script.specs.Numbers.{max_digits, max_number}
 use Rattle.script.specs.Calls.{call_of}
 use Rattle.script.specs.Output.{bad_line, answer_line, refusal_room}
 use Rattle.script.specs.declared.calls.CallLine.{CallLine}
-use Rattle.script.specs.declared.calls.CallLine.TheVariants as CallLine
-use Rattle.script.specs.Words.{cores_word}
-use Rattle.script.specs.WordLine.{word_line}
-use Rattle.script.specs.declared.word_line.WordLine.{WordLine}
-use Rattle.script.specs.declared.word_line.WordLine.TheVariants.{Found, Missing}
-use Rattle.replay.specs.Words.{calls_word}
+use Rattle.replay.specs.Words.{cores_word}
+use Rattle.replay.specs.Calls.{calls_start}
+use Rattle.replay.specs.declared.calls.CallsStart.{CallsStart}
+use Rattle.replay.specs.declared.calls.CallsStart.TheVariants.{Found, Missing}
 
 -- "at most 65,536 bytes"
 abbrev pub max_script_length : ℕ
@@ -56,13 +53,13 @@ printed_for table cores n calls = printed_after_reading (reading table).outcome 
 
 -- after the line `CORES m`: the text s up to the line `CALLS` is the table's, and what follows that line is the calls'. A line `CALLS` that is missing
 -- is told "even when the table is bad too"
-unfoldable pub printed_after_cores : WordLine → (cores : ℕ) → (s : List ℕ) → List ℕ
+unfoldable pub printed_after_cores : CallsStart → (cores : ℕ) → (s : List ℕ) → List ℕ
 printed_after_cores (Found table calls n) cores s = printed_for (take table s) cores n (drop calls s)
 printed_after_cores (Missing n) cores s = bad_line n
 
 -- by the number of the first line, which the text s follows: "A missing or malformed CORES line is `BAD LINE 1`"
 unfoldable pub printed_after_first : Number → (s : List ℕ) → List ℕ
-printed_after_first (Number.Read cores) s = printed_after_cores (word_line calls_word s) cores s
+printed_after_first (Number.Read cores) s = printed_after_cores (calls_start s) cores s
 printed_after_first Number.Broken s = bad_line 1
 
 -- what is printed for a script: "more than 65,536 bytes is `REFUSED 1` alone", and a script without an ended first line is `BAD LINE 1`

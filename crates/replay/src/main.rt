@@ -1,19 +1,23 @@
 // Replays a script: starts a machine on its table and cores, and prints a line for each of its calls.
-ghost use Rattle.std.specs.Prelude.{◌+◌, ◌*◌, ◌≤◌, length};
-ghost use Rattle.text.specs.Lines.{lines, unended};
-ghost use Rattle.text.specs.Output.{Holds};
-ghost use Rattle.script.specs.Output.{PutWithin, refusal_room};
-ghost use Rattle.replay.specs.Script.{max_script_length, answer_lines, printed_for, printed, call_room, room};
+#![tactic(auto)]
 
+use crate::calls::CallsStart;
 use machine::machine::Machine;
 use script::calls::{CallLine, MAX_DIGITS, MAX_NUMBER, call_line};
 use script::output::{REFUSAL_ROOM, put_answer, put_bad_line};
-use script::word_line::{WordLine, find_word_line};
 use tasks::outcome::Outcome;
 use tasks::refusals::TEXT_TOO_LONG;
 use text::number::Number;
 use text::output::put_refused;
 use text::{bytes, number};
+
+mod calls;
+
+ghost use Rattle.std.specs.Prelude.{◌+◌, ◌*◌, ◌≤◌, length};
+ghost use Rattle.text.specs.Lines.{lines, unended};
+ghost use Rattle.text.specs.Output.{Holds};
+ghost use Rattle.script.specs.Output.{PutWithin, refusal_room};
+ghost use Rattle.replay.specs.Script.{max_script_length, answer_lines, printed_for, printed, call_room, room};
 
 // The most bytes that a script has.
 const MAX_SCRIPT_LENGTH: usize = 65_536;
@@ -93,23 +97,23 @@ fn replay(script: &[u8], output: &mut [u8]) -> usize
         return put_bad_line(output, 0, 1);
     };
     let text = &script[length + 1..];
-    match find_word_line(text, b"CALLS") {
-        WordLine::Missing(line) => put_bad_line(output, 0, line),
-        WordLine::Found { start, next, line } => {
-            run(&text[..start], cores, &text[next..], line, output)
+    match calls::find_calls(text) {
+        CallsStart::Missing(line) => put_bad_line(output, 0, line),
+        CallsStart::Found { table, calls, line } => {
+            run(&text[..table], cores, &text[calls..], line, output)
         }
     }
 }
 
 // Reads a script into one array and writes what is printed for it from the other.
-fn print(space: [u8; INPUT_ROOM], room: [u8; OUTPUT_ROOM]) {
+fn print(rt: &HostRuntime, space: [u8; INPUT_ROOM], room: [u8; OUTPUT_ROOM]) {
     let mut script = space;
     let mut output = room;
-    let n = stdio::read_input(&mut script);
+    let n = stdio::read_input(rt, &mut script);
     let used = replay(&script[..n], &mut output);
-    stdio::write_output(&output, used);
+    stdio::write_output(rt, &output, used);
 }
 
-fn main() {
-    print([0; INPUT_ROOM], [0; OUTPUT_ROOM]);
+fn main(rt: HostRuntime) {
+    print(&rt, [0; INPUT_ROOM], [0; OUTPUT_ROOM]);
 }

@@ -3,17 +3,13 @@
 use Prim.Native.Nat.{ℕ, ◌+◌, ◌^◌, ◌≤◌, ◌<◌}
 use native.Mathlib.Omega.{arith}
 use mathlib.Core.Path.{◌≡◌, refl}
-use mathlib.Core.Logic.{⊎_elim}
 use mathlib.Core.List.{List, [], ◌∷◌, ◌++◌}
 use lib.ListN.{length, length-append}
-use types.Run.{OneOf}
-use denote.Enum.Declared.{tag_of}
 use Rattle.text.specs.Lines.{line_end}
 use Rattle.text.specs.Output.{Put, Holds, further_numbers, numbers_line, refused_line}
 use Rattle.text.proofs.DigitLaws.{text_few}
 use Rattle.text.proofs.Putting.{put_then, put_all}
 use Rattle.machine.specs.declared.call.Call.{Call}
-use Rattle.machine.specs.contracts.call.Call.{the_type}
 use Rattle.machine.specs.declared.call.Call.TheVariants.{Release, Finish, Slot, Offer, Commit}
 use Rattle.machine.specs.declared.answer.Report.{Report}
 use Rattle.script.specs.Words.{done_word, bad_line_word}
@@ -43,13 +39,11 @@ unfolding bad_line numbers_line further_numbers
 bad_put a b c n u v w h p q =
     record { put = put_then a u bad_line_word b v p _ c w q; few = simp length-append (omega (arith, text_few 19 n (omega arith))) }
 
--- the line of an accepted call that is no slot: the calls' tags are 0 to 4, and a slot's is 2
-pub done_line : (call : Call) (r : Report) → OneOf (0 ∷ 1 ∷ 3 ∷ 4 ∷ []) (tag_of the_type call) → accepted_line call r ≡ done_word ++ line_end ∷ []
+-- the line of an accepted call that is no slot
+pub done_line : (call : Call) (r : Report) → ((k : ℕ) → call ≡ Slot k → ⊥) → accepted_line call r ≡ done_word ++ line_end ∷ []
 unfolding accepted_line
 done_line (Release i e) r h = refl
 done_line (Finish i) r h = refl
-done_line (Slot k) r h =
-    absurd
-    (⊎_elim (λ e. omega (arith, e)) (λ h. ⊎_elim (λ e. omega (arith, e)) (λ h. ⊎_elim (λ e. omega (arith, e)) (λ e. omega (arith, e)) h) h) h)
+done_line (Slot k) r h = absurd (h k refl)
 done_line (Offer t) r h = refl
 done_line Commit r h = refl

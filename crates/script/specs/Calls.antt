@@ -6,14 +6,12 @@ use Rattle.text.specs.Words.{same_bytes, begins_with}
 use Rattle.text.specs.Number.{decimal, number_after}
 use Rattle.text.specs.Fields.{are_numbers}
 use Rattle.text.specs.declared.number.Number.{Number}
-use Rattle.text.specs.declared.number.Number.TheVariants as Number
 use Rattle.tasks.specs.declared.task.Task.{Task}
 use Rattle.machine.specs.declared.call.Call.{Call}
 use Rattle.machine.specs.declared.call.Call.TheVariants.{Release, Finish, Slot, Offer, Commit}
 use Rattle.script.specs.Words.{release_word, finish_word, slot_word, offer_word, commit_word}
 use Rattle.script.specs.Numbers.{max_digits, max_number}
 use Rattle.script.specs.declared.task.TaskFields.{TaskFields}
-use Rattle.script.specs.declared.task.TaskFields.TheVariants as TaskFields
 use Rattle.script.specs.declared.calls.CallLine.{CallLine}
 use Rattle.script.specs.declared.calls.CallLine.TheVariants.{Read, Bad}
 

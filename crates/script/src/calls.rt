@@ -14,7 +14,7 @@ pub const MAX_DIGITS: usize = 10;
 pub const MAX_NUMBER: u32 = 4_294_967_295;
 
 // The call that a line is, or that it is none.
-#[derive(Drop)]
+#[derive(Clone, Copy)]
 pub enum CallLine {
     Read(Call),
     Bad,

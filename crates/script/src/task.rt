@@ -7,7 +7,7 @@ use tasks::task::Task;
 use text::fields::fill_from_line;
 
 // The task that some fields are, or that they are none.
-#[derive(Drop)]
+#[derive(Clone, Copy)]
 pub enum TaskFields {
     Read(Task),
     Bad,

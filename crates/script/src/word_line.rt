@@ -6,7 +6,7 @@ use text::bytes;
 
 // What stands before the line ends at `start`, what follows it begins at `next`, and the first line of that is the line `line` of the whole input.
 // Missing has the line where the word was expected.
-#[derive(Drop)]
+#[derive(Clone, Copy)]
 pub enum WordLine {
     Found {
         start: usize,

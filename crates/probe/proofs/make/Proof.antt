@@ -11,14 +11,16 @@ use Rattle.probe.proofs.make.Tie as tie
 returns : tie.Need-returns
 unfolding shown
 returns c =
-    let p = c.before.before in
-    let a = p.before.before.before.before.before in
-    let s = a.before.before in
-    rw (← s.step.ensures)
+    rw (← c.step-answer.ensures)
     (within_then answer_room machine_room _ _ _ _ _ _ _ _
-    (record { put = a.put-answer.ensures; few = rw s.step.ensures (few_bytes _ _) })
-    p.put-machine.ensures)
+    (record { put = c.put_answer-used.ensures; few = rw c.step-answer.ensures (few_bytes _ _) })
+    c.put_machine.ensures)
 
 pub make_spec : {M : Type 1} → statement M
 make_spec =
-    tie.close (tie.spec (λ c κs. search rules) (λ c κs. search rules) (λ c κs. search rules) (λ c. search rules) returns)
+    tie.close (tie.spec
+    (λ c κs. search rules)
+    (λ c κs. search rules)
+    (λ c κs. search rules)
+    (λ c. search rules)
+    returns)

@@ -6,21 +6,15 @@ use Rattle.probe.specs.Printed.{printed_asked}
 use Rattle.probe.proofs.probe.Statement.{statement}
 use Rattle.probe.proofs.probe.Tie as tie
 
-returns : tie.Need-returns
+returns : tie.Need-returns-in-Bad
 unfolding printed_asked
 returns c =
-    let p = c.before.before in
-    let a = p.before.before.before in
-    let r = a.before.before.before in
-    rw (r.read.ensures, a.asked.given.1) (within_all _ _ _ _ _ (omega (arith, r.before.before.before.requires)) p.put-bad-line.ensures)
+    rw (c.read-input.ensures, c.in-Bad.is) (within_all _ _ _ _ _ (omega (arith, c.requires)) c.put_bad_line.ensures)
 
-returns-2 : tie.Need-returns-2
+returns-2 : tie.Need-returns-in-Read
 unfolding printed_asked
 returns-2 c =
-    let p = c.before.before in
-    let a = p.before.before.before in
-    let r = a.before.before.before in
-    rw (r.read.ensures, a.asked2.given.1) (within_all _ _ _ _ _ r.before.before.before.requires p.make.ensures)
+    rw (c.read-input.ensures, c.in-Read.is) (within_all _ _ _ _ _ c.requires c.make.ensures)
 
 pub probe_spec : {M : Type 1} → statement M
 probe_spec =

@@ -6,31 +6,21 @@ use Rattle.script.proofs.OutputLaws.{refused_put}
 use Rattle.replay.proofs.run.Statement.{statement}
 use Rattle.replay.proofs.run.Tie as tie
 
-returns : tie.Need-returns
+returns : tie.Need-returns-in-Refused
 unfolding printed_for printed_after_reading
 returns c =
-    let p = c.before.before in
-    let o = p.before.before.before in
-    rw (← o.before.before.read.ensures, o.outcome.given.1) (refused_put _ (omega arith) _ _ _ _ _ (search rules) p.Put-refused.ensures)
+    rw (← c.read-reading.ensures, c.in-Refused.is) (refused_put _ (omega arith) _ _ _ _ _ (search rules) c.put_refused.ensures)
 
-returns-2 : tie.Need-returns-2
+returns-2 : tie.Need-returns-in-Refused-outcome
 unfolding printed_for printed_after_reading printed_after_start
 returns-2 c =
-    let p = c.before.before in
-    let o = p.before.before.before in
-    let s = o.before.before in
-    let t = s.before.before in
-    rw (← t.before.before.read.ensures, t.enum_told.given.1, ← s.start.ensures.is, o.outcome2.given.1)
-    (refused_put _ (omega arith) _ _ _ _ _ (search rules) p.put-refused2.ensures)
+    rw (← c.read-reading.ensures, c.in_default.is, ← c.start-started.ensures.is, c.in-Refused-outcome.is)
+    (refused_put _ (omega arith) _ _ _ _ _ (search rules) c.put_refused-in-Refused-outcome.ensures)
 
-returns-3 : tie.Need-returns-3
+returns-3 : tie.Need-returns
 unfolding printed_for printed_after_reading printed_after_start
 returns-3 c =
-    let p = c.before.before in
-    let o = p.before.before.before in
-    let s = o.before.before in
-    let t = s.before.before in
-    rw (← t.before.before.read.ensures, t.enum_told.given.1, ← s.start.ensures.is, o.enum-told2.given.1) p.play.ensures
+    rw (← c.read-reading.ensures, c.in_default.is, ← c.start-started.ensures.is, c.in_default-outcome.is) c.play.ensures
 
 pub run_spec : {M : Type 1} → statement M
 run_spec =

@@ -15,43 +15,35 @@ use Rattle.probe.proofs.InputLaws.{entry_unended, no_eight, no_flag, entry_read}
 use Rattle.probe.proofs.input.entry_line.Statement.{statement}
 use Rattle.probe.proofs.input.entry_line.Tie as tie
 
-returns : tie.Need-returns
-returns c = entry_unended _ _ c.before.find.ensures c.if1.true
+returns : tie.Need-returns-then-text-length
+returns c = entry_unended _ _ c.find-length.ensures c.if-text-length.true
 
-slice-aggregate-fill-from-line : tie.Need-slice-aggregate-fill-from-line
-slice-aggregate-fill-from-line c = sym (length-take-le _ _ (le_of_lt c.before.if1.false))
+slice-aggregate-fill-from-line : tie.Need-slice_bounds-fill_from_line-end
+slice-aggregate-fill-from-line c = sym (length-take-le _ _ (le_of_lt c.if-text-length.false))
 
 -- the numbers of the line
-abbrev line_of : tie.After-fill-from-line → tie.Else1
-line_of c = c.before.before.before
+abbrev line_of : tie.After-fill_from_line → tie.Else-text-length
+line_of c = c.before.before
 
-abbrev numbers : tie.After-fill-from-line → List ℕ
-numbers c = c.fill-from-line.new.1.0
+abbrev numbers : tie.After-fill_from_line → List ℕ
+numbers c = c.fill_from_line.new.numbers
 
 eight-read :
-    (c : tie.Else2)
-    → let n = c.before.before in
-    let d = line_of n in
-    FilledFromLine max_digits max_number (take d.before.find.result d.before.before.before.args.text.now) (replicate 8 0) (numbers n) true
-eight-read c = let n = c.before.before in rw (not-false n.fill-from-line.result c.if2.false) at n.fill-from-line.ensures
+    (c : tie.Else-not-fill_from_line)
+    → FilledFromLine max_digits max_number (take c.find-length.result c.args.text.now) (replicate 8 0) (numbers c.before.before) true
+eight-read c = rw (not-false c.fill_from_line.result c.if-not-fill_from_line.false-raw) at c.fill_from_line.ensures
 
-returns-2 : tie.Need-returns-2
+returns-2 : tie.Need-returns-then-not-fill_from_line
 returns-2 c =
-    let n = c.before.before in
-    let d = line_of n in
-    no_eight _ _ d.before.find.ensures d.if1.left (was_false n.fill-from-line.ensures.is c.if2.true)
+    no_eight _ _ c.find-length.ensures c.if-text-length.false (was_false c.fill_from_line.ensures.is c.if-not-fill_from_line.true-raw)
 
-returns-3 : tie.Need-returns-3
+returns-3 : tie.Need-returns-then-numbers-gt1
 returns-3 c =
-    let n = c.before.before.before in
-    let d = line_of n in
-    no_flag _ _ d.before.find.ensures d.if1.left _ (eight-read c.before) c.if3.true
+    no_flag _ _ c.find-length.ensures c.if-text-length.false _ (eight-read c.before) c.if-numbers-gt1.true
 
-returns-4 : tie.Need-returns-4
+returns-4 : tie.Need-returns
 returns-4 c =
-    let n = c.before.before.before in
-    let d = line_of n in
-    entry_read _ _ d.before.find.ensures d.if1.left _ (eight-read c.before) c.if3.false
+    entry_read _ _ c.find-length.ensures c.if-text-length.false _ (eight-read c.before) c.if-numbers-gt1.false
 
 pub entry_line_spec : {M : Type 1} → statement M
 entry_line_spec =

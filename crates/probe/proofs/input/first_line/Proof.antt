@@ -16,54 +16,46 @@ use Rattle.probe.proofs.InputLaws.{machine_unended, no_word, no_pair, machine_re
 use Rattle.probe.proofs.input.first_line.Statement.{statement}
 use Rattle.probe.proofs.input.first_line.Tie as tie
 
-returns : tie.Need-returns
-returns c = machine_unended _ _ c.before.find.ensures c.if1.true
+returns : tie.Need-returns-then-text-length
+returns c = machine_unended _ _ c.find-length.ensures c.if-text-length.true
 
-slice-aggregate-line : tie.Need-slice-aggregate-line
-slice-aggregate-line c = sym (length-take-le _ _ (le_of_lt c.before.if1.false))
+slice-aggregate-line : tie.Need-slice_bounds-line-end
+slice-aggregate-line c = sym (length-take-le _ _ (le_of_lt c.if-text-length.false))
 
 -- the line, and its word
-abbrev line_of : tie.After-begins-with → tie.Else1
-line_of c = c.before.before.before.before
+abbrev line_of : tie.After-begins_with → tie.Else-text-length
+line_of c = c.before.before.before
 
-abbrev line : tie.After-begins-with → List ℕ
-line c = let d = line_of c in take d.before.find.result d.before.before.before.args.text.now
+abbrev line : tie.After-begins_with → List ℕ
+line c = take c.find-length.result c.args.text.now
 
-word : (c : tie.Else2) → begins_with machine_word (line c.before) ≡ true
-word c = was_true c.before.begins-with.ensures c.if2.false
+word : (c : tie.Else-not-begins_with) → begins_with machine_word (line c.before) ≡ true
+word c = was_true c.begins_with.ensures c.if-not-begins_with.false-raw
 
-word_fits : (c : tie.Else2) → length machine_word ≤ length (line c.before)
+word_fits : (c : tie.Else-not-begins_with) → length machine_word ≤ length (line c.before)
 word_fits c = not_longer machine_word _ (word c)
 
 -- the numbers after it
-abbrev word_of : tie.After-fill-from-line → tie.Else2
+abbrev word_of : tie.After-fill_from_line → tie.Else-not-begins_with
 word_of c = c.before.before.before
 
-returns-2 : tie.Need-returns-2
+returns-2 : tie.Need-returns-then-not-begins_with
 returns-2 c =
-    let w = c.before in
-    let d = line_of w in
-    no_word _ _ d.before.find.ensures d.if1.left (was_false w.begins-with.ensures c.if2.true)
+    no_word _ _ c.find-length.ensures c.if-text-length.false (was_false c.begins_with.ensures c.if-not-begins_with.true-raw)
 
-sub-fill-from-line : tie.Need-overflow-sub-fill-from-line
+sub-fill-from-line : tie.Need-slice_bounds-fill_from_line-count
 sub-fill-from-line c = word_fits c
 
-part-fill-from-line-start : tie.Need-slice-bounds-fill-from-line-start
+part-fill-from-line-start : tie.Need-slice_bounds-fill_from_line-start
 part-fill-from-line-start c = word_fits c
 
-returns-3 : tie.Need-returns-3
+returns-3 : tie.Need-returns-then-not-fill_from_line
 returns-3 c =
-    let n = c.before.before in
-    let w = word_of n in
-    let d = line_of w.before in
-    no_pair _ _ d.before.find.ensures d.if1.left (word w) (was_false n.fill-from-line.ensures.is c.if3.true)
+    no_pair _ _ c.find-length.ensures c.if-text-length.false (word c.before.before.before.before.before) (was_false c.fill_from_line.ensures.is c.if-not-fill_from_line.true-raw)
 
-returns-4 : tie.Need-returns-4
+returns-4 : tie.Need-returns
 returns-4 c =
-    let n = c.before.before in
-    let w = word_of n in
-    let d = line_of w.before in
-    machine_read _ _ d.before.find.ensures d.if1.left (word w) _ (rw (not-false n.fill-from-line.result c.if3.false) at n.fill-from-line.ensures)
+    machine_read _ _ c.find-length.ensures c.if-text-length.false (word c.before.before.before.before.before) _ (rw (not-false c.fill_from_line.result c.if-not-fill_from_line.false-raw) at c.fill_from_line.ensures)
 
 pub first_line_spec : {M : Type 1} → statement M
 first_line_spec =

@@ -15,83 +15,70 @@ use Rattle.probe.proofs.InputLaws.{held_unended, none_read, no_held_word, no_hel
 use Rattle.probe.proofs.input.held_line.Statement.{statement}
 use Rattle.probe.proofs.input.held_line.Tie as tie
 
-returns : tie.Need-returns
-returns c = held_unended _ _ c.before.find.ensures c.if1.true
+returns : tie.Need-returns-then-text-length
+returns c = held_unended _ _ c.find-length.ensures c.if-text-length.true
 
-slice-aggregate-line : tie.Need-slice-aggregate-line
-slice-aggregate-line c = sym (length-take-le _ _ (le_of_lt c.before.if1.false))
+slice-aggregate-line : tie.Need-slice_bounds-line-end
+slice-aggregate-line c = sym (length-take-le _ _ (le_of_lt c.if-text-length.false))
 
 -- the line, and that it is not `NONE`
-abbrev line_of : tie.After-same → tie.Else1
+abbrev line_of : tie.After-same → tie.Else-text-length
 line_of c = c.before.before.before
 
 abbrev line : tie.After-same → List ℕ
-line c = let d = line_of c in take d.before.find.result d.before.before.before.args.text.now
+line c = take c.find-length.result c.args.text.now
 
-other : (c : tie.Else2) → same_bytes (line c.before) none_word ≡ false
-other c = sym c.before.same.ensures ∙ c.if2.false
+other : (c : tie.Else-same) → same_bytes (line c.before) none_word ≡ false
+other c = sym c.same.ensures ∙ c.if-same.false
 
 -- its word
-abbrev other-of : tie.After-begins-with → tie.Else2
+abbrev other-of : tie.After-begins_with → tie.Else-same
 other-of c = c.before.before.before
 
-word : (c : tie.Else3) → begins_with held_word (line (other-of c.before).before) ≡ true
-word c = was_true c.before.begins-with.ensures c.if3.false
+word : (c : tie.Else-not-begins_with) → begins_with held_word (line c.before.before.before.before.before) ≡ true
+word c = was_true c.begins_with.ensures c.if-not-begins_with.false-raw
 
-word_fits : (c : tie.Else3) → length held_word ≤ length (line (other-of c.before).before)
+word_fits : (c : tie.Else-not-begins_with) → length held_word ≤ length (line c.before.before.before.before.before)
 word_fits c = not_longer held_word _ (word c)
 
-returns-2 : tie.Need-returns-2
+returns-2 : tie.Need-returns-then-same
 returns-2 c =
-    let d = line_of c.before in
-    none_read _ _ d.before.find.ensures d.if1.left (sym c.before.same.ensures ∙ c.if2.true)
+    none_read _ _ c.find-length.ensures c.if-text-length.false (sym c.same.ensures ∙ c.if-same.true)
 
-returns-3 : tie.Need-returns-3
+returns-3 : tie.Need-returns-then-not-begins_with
 returns-3 c =
-    let o = other-of c.before in
-    let d = line_of o.before in
-    no_held_word _ _ d.before.find.ensures d.if1.left (other o) (was_false c.before.begins-with.ensures c.if3.true)
+    no_held_word _ _ c.find-length.ensures c.if-text-length.false (other c.before.before.before.before) (was_false c.begins_with.ensures c.if-not-begins_with.true-raw)
 
-sub-task-fields : tie.Need-overflow-sub-task-fields
+sub-task-fields : tie.Need-slice_bounds-task_fields-count
 sub-task-fields c = word_fits c
 
-part-task-fields-start : tie.Need-slice-bounds-task-fields-start
+part-task-fields-start : tie.Need-slice_bounds-task_fields-start
 part-task-fields-start c = word_fits c
 
-returns-4 : tie.Need-returns-4
+returns-4 : tie.Need-returns-in_default
 returns-4 c =
-    let f = c.before.before in
-    let w = f.before.before in
-    let o = other-of w.before in
-    let d = line_of o.before in
-    no_held_task_lem _ _ d.before.find.ensures d.if1.left (other o) (word w) (sym f.task-fields.ensures ∙ c.enum_told.given.1)
+    no_held_task_lem _ _ c.find-length.ensures c.if-text-length.false (other c.before.before.before.before.before.before.before) (word c.before.before.before) (sym c.task_fields.ensures ∙ c.in_default.is)
 
-returns-5 : tie.Need-returns-5
+returns-5 : tie.Need-returns
 returns-5 c =
-    let t = c.before in
-    let f = t.before.before in
-    let w = f.before.before in
-    let o = other-of w.before in
-    let d = line_of o.before in
-    held_read _ _ d.before.find.ensures d.if1.left (other o) (word w) _ (sym f.task-fields.ensures ∙ t.task.given.1)
+    held_read _ _ c.find-length.ensures c.if-text-length.false (other c.before.before.before.before.before.before.before) (word c.before.before.before) _ (sym c.task_fields.ensures ∙ c.in-Read.is)
 
 pub held_line_spec : {M : Type 1} → statement M
 held_line_spec =
     tie.close
     (tie.spec
-    (λ c κs. search rules)
+    (λ c. search rules)
     returns
     slice-aggregate-line
     (λ c. search rules)
-    (λ c κs. search rules)
     (λ c. search rules)
     returns-2
-    (λ c κs. search rules)
+    (λ c. search rules)
     returns-3
     sub-task-fields
     part-task-fields-start
     (λ c. search rules)
-    (λ c κs. search rules)
+    (λ c. search rules)
     (λ c. search rules)
     (λ c. search rules)
     returns-4

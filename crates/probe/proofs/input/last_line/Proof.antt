@@ -8,31 +8,23 @@ use Rattle.probe.proofs.InputLaws.{call_unended, no_call, more_follows, call_rea
 use Rattle.probe.proofs.input.last_line.Statement.{statement}
 use Rattle.probe.proofs.input.last_line.Tie as tie
 
-returns : tie.Need-returns
-returns c = call_unended _ _ c.before.find.ensures c.if1.true
+returns : tie.Need-returns-then-text-length
+returns c = call_unended _ _ c.find-length.ensures c.if-text-length.true
 
-slice-aggregate-call-line : tie.Need-slice-aggregate-call-line
-slice-aggregate-call-line c = sym (length-take-le _ _ (le_of_lt c.before.if1.false))
+slice-aggregate-call-line : tie.Need-slice_bounds-call_line-end
+slice-aggregate-call-line c = sym (length-take-le _ _ (le_of_lt c.if-text-length.false))
 
-returns-2 : tie.Need-returns-2
+returns-2 : tie.Need-returns-in_default
 returns-2 c =
-    let l = c.before.before in
-    let d = l.before.before in
-    no_call _ _ d.before.find.ensures d.if1.false (sym l.call_line.ensures ∙ c.enum_told.given.1)
+    no_call _ _ c.find-length.ensures c.if-text-length.false (sym c.call_line.ensures ∙ c.in_default.is)
 
-returns-3 : tie.Need-returns-3
+returns-3 : tie.Need-returns-then-length-text
 returns-3 c =
-    let r = c.before.before in
-    let l = r.before.before in
-    let d = l.before.before in
-    more_follows _ _ d.before.find.ensures d.if1.false _ (sym l.call_line.ensures ∙ r.call.given.1) c.if2.true
+    more_follows _ _ c.find-length.ensures c.if-text-length.false _ (sym c.call_line.ensures ∙ c.in-Read.is) c.if-length-text.true
 
-returns-4 : tie.Need-returns-4
+returns-4 : tie.Need-returns
 returns-4 c =
-    let r = c.before.before in
-    let l = r.before.before in
-    let d = l.before.before in
-    call_read _ _ d.before.find.ensures d.if1.false _ (sym l.call_line.ensures ∙ r.call.given.1) c.if2.false
+    call_read _ _ c.find-length.ensures c.if-text-length.false _ (sym c.call_line.ensures ∙ c.in-Read.is) c.if-length-text.false
 
 pub last_line_spec : {M : Type 1} → statement M
 last_line_spec =

@@ -12,75 +12,69 @@ use Rattle.probe.proofs.Filling.{Filling, fill_none, filled, no_entry, fits, fil
 use Rattle.probe.proofs.input.read_entries.Statement.{statement}
 use Rattle.probe.proofs.input.read_entries.Tie as tie
 
-abbrev invariant-loop : tie.invariant-loop
+abbrev invariant-loop : tie.invariant-loop-i
 invariant-loop text machine₀ at₀ i₀ machine at i = Filling machine₀ text machine at i
 
-abbrev decreases-loop : tie.decreases-loop
+abbrev decreases-loop : tie.decreases-loop-i
 decreases-loop text machine₀ at₀ i₀ machine at i = max_tasks - i
 
-loop-holds : tie.Need-loop-init invariant-loop decreases-loop
+loop-holds : tie.Need-loop-i-init invariant-loop decreases-loop
 loop-holds c = fill_none _ _
 
-sub-entry-line : tie.Need-overflow-sub-entry-line invariant-loop decreases-loop
-sub-entry-line c = c.before.loop.invariant.within
+sub-entry-line : tie.Need-slice_bounds-entry_line-count invariant-loop decreases-loop
+sub-entry-line c = c.loop-i.invariant.within
 
-part-entry-line-start : tie.Need-slice-bounds-entry-line-start invariant-loop decreases-loop
-part-entry-line-start c = c.before.loop.invariant.within
+part-entry-line-start : tie.Need-slice_bounds-entry_line-start invariant-loop decreases-loop
+part-entry-line-start c = c.loop-i.invariant.within
 
-add-t15 : tie.Need-overflow-add-t15 invariant-loop decreases-loop
-add-t15 c = omega (arith, c.before.before.before.before.before.loop.invariant.few)
+add-t15 : tie.Need-overflow_add-result invariant-loop decreases-loop
+add-t15 c = omega (arith, c.loop-i.invariant.few)
 
-returns : tie.Need-returns invariant-loop decreases-loop
+returns : tie.Need-returns-in_default invariant-loop decreases-loop
 returns c =
-    let n = c.before.before in
-    let t = n.before.before in
-    no_entry _ _ _ _ _ t.before.loop.invariant t.loop-test.true (sym n.entry-line.ensures ∙ c.enum_told.given.1)
+    no_entry _ _ _ _ _ c.loop-i.invariant c.loop-i-test.true (sym c.entry_line.ensures ∙ c.in_default.is)
 
 -- the entry of a line
-abbrev in-loop : tie.After-task invariant-loop decreases-loop → tie.In-loop invariant-loop decreases-loop
-in-loop c = c.before.before.before.before
+abbrev in-loop : tie.In-Read invariant-loop decreases-loop → tie.In-loop-i invariant-loop decreases-loop
+in-loop c = c.before.before.before
 
-abbrev at-loop : tie.After-task invariant-loop decreases-loop → tie.At-loop invariant-loop decreases-loop
-at-loop c = (in-loop c).before
+abbrev at-loop : tie.In-Read invariant-loop decreases-loop → tie.At-loop-i invariant-loop decreases-loop
+at-loop c = c.before.before.before.before
 
 entry_is :
-    (c : tie.After-task invariant-loop decreases-loop)
-    → let l = at-loop c in
-    entry_from (from l.before.before.args.text.now l.loop.at) ≡ Read c.task.given.0.0 c.task.given.0.1.0 c.task.given.0.1.1.0 c.task.given.0.1.1.1.0
-entry_is c = sym c.before.before.entry-line.ensures ∙ c.task.given.1
+    (c : tie.In-Read invariant-loop decreases-loop)
+    → entry_from (from c.args.text.now c.loop-i.at) ≡ Read c.in-Read.task c.in-Read.job c.in-Read.core c.in-Read.length
+entry_is c = sym c.entry_line.ensures ∙ c.in-Read.is
 
 entry-fits :
-    (c : tie.After-task invariant-loop decreases-loop) → let l = at-loop c in l.loop.at + c.task.given.0.1.1.1.0 ≤ length l.before.before.args.text.now
-entry-fits c = fits _ _ _ _ _ (at-loop c).loop.invariant (in-loop c).loop-test.true _ _ _ _ (entry_is c)
+    (c : tie.In-Read invariant-loop decreases-loop) → c.loop-i.at + c.in-Read.length ≤ length c.args.text.now
+entry-fits c = fits _ _ _ _ _ c.loop-i.invariant c.loop-i-test.true _ _ _ _ (entry_is c)
 
-with-entry-requires : tie.Need-with-entry-requires invariant-loop decreases-loop
-with-entry-requires c κs = c.before.before.before.before.before.loop-test.true
+with-entry-requires : tie.Need-with_entry-machine-requires invariant-loop decreases-loop
+with-entry-requires c κs = c.loop-i-test.true
 
-add_at : tie.Need-overflow-add-at invariant-loop decreases-loop
-add_at c = omega (arith, entry-fits c.before.before, (at-loop c.before.before).before.before.good)
+add_at : tie.Need-overflow_add-at invariant-loop decreases-loop
+add_at c = omega (arith, entry-fits c.before, c.well_formed)
 
-add-i : tie.Need-overflow-add-i invariant-loop decreases-loop
-add-i c = omega (arith, (at-loop c.before.before).loop.inv.few)
+add-i : tie.Need-overflow_add-i invariant-loop decreases-loop
+add-i c = omega (arith, c.loop-i.invariant.few)
 
-loop-less : tie.Need-loop-smaller invariant-loop decreases-loop
-loop-less c = omega (arith, c.before.before.before.before.before.before.loop-test.true)
+loop-less : tie.Need-loop-i-smaller invariant-loop decreases-loop
+loop-less c = omega (arith, c.loop-i-test.true)
 
-loop-again : tie.Need-loop-preserved invariant-loop decreases-loop
+loop-again : tie.Need-loop-i-preserved invariant-loop decreases-loop
 loop-again c =
-    let k = c.before.before in
-    let t = at-loop k in
-    rw c.with-entry.ensures (fill_more _ _ _ _ _ t.loop.inv (in-loop k).loop-test.true _ _ _ _ (entry_is k))
+    rw c.with_entry-machine.ensures (fill_more _ _ _ _ _ c.loop-i.invariant c.loop-i-test.true _ _ _ _ (entry_is c.before))
 
-sub-read-held : tie.Need-overflow-sub-read-held invariant-loop decreases-loop
-sub-read-held c = c.before.loop.invariant.within
+sub-read-held : tie.Need-slice_bounds-read_held-count invariant-loop decreases-loop
+sub-read-held c = c.loop-i.invariant.within
 
-part-read-held-start : tie.Need-slice-bounds-read-held-start invariant-loop decreases-loop
-part-read-held-start c = c.before.loop.invariant.within
+part-read-held-start : tie.Need-slice_bounds-read_held-start invariant-loop decreases-loop
+part-read-held-start c = c.loop-i.invariant.within
 
-returns-2 : tie.Need-returns-2 invariant-loop decreases-loop
+returns-2 : tie.Need-returns invariant-loop decreases-loop
 returns-2 c =
-    let t = c.before.before in
-    filled _ _ _ _ _ t.before.loop.invariant t.loop-test.false _ c.read_held.ensures
+    filled _ _ _ _ _ c.loop-i.invariant c.loop-i-test.false _ c.read_held.ensures
 
 pub read_entries_spec : {M : Type 1} → statement M
 read_entries_spec =

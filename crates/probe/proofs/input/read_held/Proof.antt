@@ -5,26 +5,25 @@ use Rattle.probe.proofs.PrintedLaws.{no_held, HeldIs, held_is_lem}
 use Rattle.probe.proofs.input.read_held.Statement.{statement}
 use Rattle.probe.proofs.input.read_held.Tie as tie
 
-returns : tie.Need-returns
-returns c = no_held _ _ (sym c.before.before.held-line.ensures ∙ c.enum_told.given.1)
+returns : tie.Need-returns-in_default
+returns c = no_held _ _ (sym c.held_line.ensures ∙ c.in_default.is)
 
 -- what the line says
 held-line :
-    (c : tie.After-held)
-    → let a = c.before.before.before.before.args in
-    HeldIs a.text.now a.machine c.held.given.0.0 c.held.given.0.1.0
-held-line c = held_is_lem _ _ _ _ (sym c.before.before.held-line.ensures ∙ c.held.given.1)
+    (c : tie.In-Read)
+    → let a = c.args in
+    HeldIs a.text.now a.machine c.in-Read.held c.in-Read.length
+held-line c = held_is_lem _ _ _ _ (sym c.held_line.ensures ∙ c.in-Read.is)
 
-sub-last-line : tie.Need-overflow-sub-last-line
-sub-last-line c = (held-line c.before).within
+sub-last-line : tie.Need-slice_bounds-last_line-count
+sub-last-line c = (held-line c).within
 
-part-last-line-start : tie.Need-slice-bounds-last-line-start
-part-last-line-start c = (held-line c.before).within
+part-last-line-start : tie.Need-slice_bounds-last_line-start
+part-last-line-start c = (held-line c).within
 
-returns-2 : tie.Need-returns-2
+returns-2 : tie.Need-returns
 returns-2 c =
-    let l = c.before in
-    rw c.holding.ensures ((held-line l.before.before.before).is _ l.last_Line.ensures)
+    rw c.holding-machine.ensures ((held-line c.before.before.before).is _ c.last_line-asked.ensures)
 
 pub read_held_spec : {M : Type 1} → statement M
 read_held_spec =

@@ -11,27 +11,25 @@ use Rattle.probe.proofs.Showing.{Showing, show_none, show_more, show_all}
 use Rattle.probe.proofs.output.put_entries.Statement.{statement}
 use Rattle.probe.proofs.output.put_entries.Tie as tie
 
-abbrev invariant-loop : tie.invariant-loop
+abbrev invariant-loop : tie.invariant-loop-i
 invariant-loop output₀ used machine table at₀ i₀ output at i = Showing output₀ used machine output at i
 
-abbrev decreases-loop : tie.decreases-loop
+abbrev decreases-loop : tie.decreases-loop-i
 decreases-loop output₀ used machine table at₀ i₀ output at i = max_tasks - i
 
-loop-holds : tie.Need-loop-init invariant-loop decreases-loop
+loop-holds : tie.Need-loop-i-init invariant-loop decreases-loop
 loop-holds c = show_none _ _ _
 
-loop-again : tie.Need-loop-preserved invariant-loop decreases-loop
+loop-again : tie.Need-loop-i-preserved invariant-loop decreases-loop
 unfolding task_at job_at core_at zero_task fresh_job
 loop-again c =
-    let p = c.before.before in
-    let t = p.before.before.before.before.before in
-    show_more _ _ _ _ _ _ t.before.loop.invariant t.loop-test.true _ _ p.put-entry.ensures
+    show_more _ _ _ _ _ _ c.loop-i.invariant c.loop-i-test.true _ _ c.put_entry-at.ensures
 
-same_length : tie.Need-same-length invariant-loop decreases-loop
-same_length c = put_size _ _ _ _ _ c.before.loop.invariant.left.put
+same_length : tie.Need-shape_of-output invariant-loop decreases-loop
+same_length c = put_size _ _ _ _ _ c.loop-i.invariant.left.put
 
 returns : tie.Need-returns invariant-loop decreases-loop
-returns c = show_all _ _ _ _ _ _ c.before.loop.invariant c.loop-test.false
+returns c = show_all _ _ _ _ _ _ c.loop-i.invariant c.loop-i-test.false
 
 pub put_entries_spec : {M : Type 1} → statement M
 put_entries_spec =

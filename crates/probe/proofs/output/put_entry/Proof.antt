@@ -14,9 +14,7 @@ few c = entry_few c.args.task c.args.job c.args.core (search rules) (search rule
 returns : tie.Need-returns
 unfolding entry_line
 returns c =
-    let n = c.before.before in
-    let s = n.before.before.before.before.before.before.before.before.before.before.before in
-    record { put = rw (← bool_byte_lem s.args.job.«open») n.put-numbers.ensures; few = few s }
+    record { put = rw (← bool_byte_lem c.args.job.«open») c.put_numbers.ensures; few = few c.before.before.before.before.before.before.before.before.before.before.before.before.before }
 
 pub put_entry_spec : {M : Type 1} → statement M
 put_entry_spec =

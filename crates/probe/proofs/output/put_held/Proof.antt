@@ -4,17 +4,13 @@ use Rattle.probe.proofs.Showing.{none_put, held_put}
 use Rattle.probe.proofs.output.put_held.Statement.{statement}
 use Rattle.probe.proofs.output.put_held.Tie as tie
 
-returns : tie.Need-returns
+returns : tie.Need-returns-in_default
 returns c =
-    let p = c.before.before in
-    rw p.before.before.before.enum_told.given.1 (none_put _ _ _ _ p.put.ensures)
+    rw c.in_default.is (none_put _ _ _ _ c.put.ensures)
 
-returns-2 : tie.Need-returns-2
+returns-2 : tie.Need-returns
 returns-2 c =
-    let n = c.before.before in
-    let p = n.before.before.before.before.before.before.before.before in
-    let h = p.before.before.before.before in
-    rw h.held.given.1 (held_put _ _ _ _ _ _ _ (search rules) (search rules) (search rules) p.put2.ensures n.put-numbers.ensures)
+    rw c.in-Offered.is (held_put _ _ _ _ _ _ _ (search rules) (search rules) (search rules) c.put-at.ensures c.put_numbers.ensures)
 
 pub put_held_spec : {M : Type 1} → statement M
 put_held_spec =
@@ -23,15 +19,13 @@ put_held_spec =
     (λ c. search rules)
     (λ c. search rules)
     (λ c. search rules)
-    (λ c κs. search rules)
     (λ c. search rules)
     returns
     (λ c. search rules)
-    (λ c κs. search rules)
     (λ c. search rules)
     (λ c. search rules)
     (λ c. search rules)
     (λ c. search rules)
-    (λ c κs. search rules)
+    (λ c. search rules)
     (λ c. search rules)
     returns-2)

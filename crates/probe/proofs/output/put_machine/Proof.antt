@@ -14,23 +14,17 @@ cores_fit c = search rules
 
 returns : tie.Need-returns
 returns c =
-    let h = c.before.before in
-    let e = h.before.before.before.before in
-    let n = e.before.before.before.before in
-    let p = n.before.before.before.before.before.before in
-    let s = p.before.before.before.before in
-    machine_put _ _ _ _ _ _ _ _ _ _ s.args.machine (count_fits s) (cores_fit s) p.put.ensures n.put-numbers.ensures e.put_entries.ensures h.put-held.ensures
+    machine_put _ _ _ _ _ _ _ _ _ _ c.args.machine (count_fits c.before.before.before.before.before.before.before.before.before.before.before.before.before.before.before.before.before.before.before.before.before) (cores_fit c.before.before.before.before.before.before.before.before.before.before.before.before.before.before.before.before.before.before.before.before.before) c.put-at.ensures c.put_numbers-at.ensures c.put_entries-at.ensures c.put_held.ensures
 
 pub put_machine_spec : {M : Type 1} → statement M
 put_machine_spec =
     tie.close
     (tie.spec
     (λ c. search rules)
-    (λ c κs. search rules)
     (λ c. search rules)
     (λ c. search rules)
-    (λ c κs. search rules)
-    (λ c κs. search rules)
-    (λ c κs. search rules)
+    (λ c. search rules)
+    (λ c. search rules)
+    (λ c. search rules)
     (λ c. search rules)
     returns)

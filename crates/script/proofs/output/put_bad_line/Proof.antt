@@ -6,16 +6,14 @@ use Rattle.script.proofs.output.put_bad_line.Tie as tie
 
 returns : tie.Need-returns
 returns c =
-    let n = c.before.before in
-    bad_put _ _ _ _ _ _ _ (search rules) n.before.before.before.before.before.put.ensures n.put-numbers.ensures
+    bad_put _ _ _ _ _ _ _ (search rules) c.put-at.ensures c.put_numbers.ensures
 
 pub put_bad_line_spec : {M : Type 1} → statement M
 put_bad_line_spec =
     tie.close
     (tie.spec
     (λ c. search rules)
-    (λ c κs. search rules)
     (λ c. search rules)
-    (λ c κs. search rules)
+    (λ c. search rules)
     (λ c. search rules)
     returns)

@@ -1,7 +1,6 @@
 -- `put_report` meets its contract. The invariant: the array's first numbers are the four and the cores of the runners so far.
 use Prim.Native.Nat.{◌-◌}
 use native.Mathlib.Omega.{arith}
-use mathlib.Core.Logic.{⊎_elim}
 use mathlib.Core.Path.{refl, sym}
 use borrow.Author.Rules.{rules}
 use lib.Seq.{length-take-le}
@@ -10,43 +9,39 @@ use Rattle.tasks.specs.Limits.{max_tasks}
 use Rattle.machine.specs.declared.answer.Report.{Report}
 use Rattle.script.proofs.ReportNumbers.{Listing, list_none, list_runner, list_other, list_all}
 use Rattle.script.proofs.output.put_report.Statement.{statement}
+use Rattle.script.proofs.output.put_report.Lts.{then-ran-i, else-ran-i}
 use Rattle.script.proofs.output.put_report.Tie as tie
 
-abbrev invariant-loop : tie.invariant-loop
+abbrev invariant-loop : tie.invariant-loop-i
 invariant-loop output used ran assigned numbers₀ n₀ i₀ numbers n i = Listing numbers₀ ran assigned numbers n i
 
-abbrev decreases-loop : tie.decreases-loop
+abbrev decreases-loop : tie.decreases-loop-i
 decreases-loop output used ran assigned numbers₀ n₀ i₀ numbers n i = max_tasks - i
 
-loop-holds : tie.Need-loop-init invariant-loop decreases-loop
+loop-holds : tie.Need-loop-i-init invariant-loop decreases-loop
 loop-holds c = list_none _ _ _ refl
 
-loop-again : tie.Need-loop-preserved invariant-loop decreases-loop
+loop-again : tie.Need-loop-i-preserved invariant-loop decreases-loop
 loop-again c =
-    let l = c.before.before in
-    ⊎_elim
-    (λ w. rw (w.2, w.3, w.1.ensures) (list_runner _ _ _ _ _ _ l.loop.invariant (omega arith) w.0.taken))
-    (λ w. rw (w.1, w.2) (list_other _ _ _ _ _ _ l.loop.invariant (omega arith) w.0.left))
-    c.if1.branch
+    elim c.if-ran-i.branch [
+      | then-ran-i w ↦ rw (w.numbers-is, w.n-is, w.wide.ensures) (list_runner _ _ _ _ _ _ c.loop-i.invariant (omega arith) w.if-ran-i.true)
+      | else-ran-i w ↦ rw (w.numbers-is, w.n-is) (list_other _ _ _ _ _ _ c.loop-i.invariant (omega arith) w.if-ran-i.false)
+    ]
 
-slice-aggregate-put-numbers : tie.Need-slice-aggregate-put-numbers invariant-loop decreases-loop
+slice-aggregate-put-numbers : tie.Need-slice_bounds-put_numbers-end invariant-loop decreases-loop
 slice-aggregate-put-numbers c = sym (length-take-le _ _ (omega arith))
 
-same_length : tie.Need-same-length invariant-loop decreases-loop
-same_length c = put_size _ _ _ _ _ c.before.before.put-numbers.ensures
+same_length : tie.Need-shape_of-output invariant-loop decreases-loop
+same_length c = put_size _ _ _ _ _ c.put_numbers.ensures
 
 -- the report, from the place after its masks
-abbrev report-of : tie.After-mask3 invariant-loop decreases-loop → Report
-report-of c = c.before.before.before.before.before.before.before.before.args.report
+abbrev report-of : tie.After-mask-3 invariant-loop decreases-loop → Report
+report-of c = c.args.report
 
 returns : tie.Need-returns invariant-loop decreases-loop
 returns c =
-    let p = c.before.before in
-    let d = p.before.before.before in
-    let l = d.before in
-    let k = l.before.before in
-    rw (← list_all (report-of k) _ _ _ _ _ _ _ k.before.before.mask.ensures k.before.mask2.ensures k.mask3.ensures l.loop.invariant d.loop-test.false)
-    p.put-numbers.ensures
+    rw (← list_all (report-of c.before.before.before.before.before.before.before.before) _ _ _ _ _ _ _ c.mask.ensures c.mask-2.ensures c.mask-3.ensures c.loop-i.invariant c.loop-i-test.false)
+    c.put_numbers.ensures
 
 pub put_report_spec : {M : Type 1} → statement M
 put_report_spec =

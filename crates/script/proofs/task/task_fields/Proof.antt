@@ -28,13 +28,12 @@ task_read f a n =
     let is = entry_is max_digits max_number f (replicate 3 0) a n in
     rw (← n.is, ← is 0 (omega arith), ← is 1 (omega arith), ← is 2 (omega arith))
 
-returns : tie.Need-returns
-returns c = no_task_lem _ (was_false c.before.before.fill-from-line.ensures.is c.if1.true)
+returns : tie.Need-returns-then-not-fill_from_line
+returns c = no_task_lem _ (was_false c.fill_from_line.ensures.is c.if-not-fill_from_line.true-raw)
 
-returns-2 : tie.Need-returns-2
+returns-2 : tie.Need-returns
 returns-2 c =
-    let n = c.before.before in
-    task_read _ _ (rw (not-false n.fill-from-line.result c.if1.false) at n.fill-from-line.ensures)
+    task_read _ _ (rw (not-false c.fill_from_line.result c.if-not-fill_from_line.false-raw) at c.fill_from_line.ensures)
 
 pub task_fields_spec : {M : Type 1} → statement M
 task_fields_spec =

@@ -2,7 +2,7 @@
 use Prim.Native.Nat.{◌+◌, ◌-◌, ◌≤◌}
 use native.Mathlib.Nat.{le_of_lt}
 use native.Mathlib.Omega.{arith}
-use mathlib.Core.Path.{◌≡◌, sym, ◌∙◌}
+use mathlib.Core.Path.{sym, ◌∙◌}
 use borrow.Author.Rules.{rules}
 use lib.ListN.{length}
 use lib.Seq.{length-take-le}
@@ -10,52 +10,49 @@ use Rattle.script.proofs.WordLineLaws.{Looking, looking_none, looked_all, not_en
 use Rattle.script.proofs.word_line.find_word_line.Statement.{statement}
 use Rattle.script.proofs.word_line.find_word_line.Tie as tie
 
-abbrev invariant-loop : tie.invariant-loop
+abbrev invariant-loop : tie.invariant-loop-at
 invariant-loop text word at₀ line₀ at line = Looking word text at line
 
-abbrev decreases-loop : tie.decreases-loop
+abbrev decreases-loop : tie.decreases-loop-at
 decreases-loop text word at₀ line₀ at line = length text - at
 
-loop-holds : tie.Need-loop-init invariant-loop decreases-loop
+loop-holds : tie.Need-loop-at-init invariant-loop decreases-loop
 loop-holds c = looking_none _ _
 
-returns : tie.Need-returns invariant-loop decreases-loop
+returns : tie.Need-returns-then-rest-length invariant-loop decreases-loop
 returns c =
-    let d = c.before.before.before.before in
-    not_ended_lem _ _ _ _ d.loop.invariant _ c.before.find.ensures c.if1.true
+    not_ended_lem _ _ _ _ c.loop-at.invariant _ c.find-length.ensures c.if-rest-length.true
 
 -- the line with its byte 10 lies within the text
-abbrev at-line : tie.Else1 invariant-loop decreases-loop → tie.At-loop invariant-loop decreases-loop
+abbrev at-line : tie.Else-rest-length invariant-loop decreases-loop → tie.At-loop-at invariant-loop decreases-loop
 at-line c = c.before.before.before.before
 
 fits :
-    (c : tie.Else1 invariant-loop decreases-loop) → (at-line c).loop.at + c.before.find.result + 1 ≤ length (at-line c).before.before.before.args.text.now
-fits c = line_fits _ _ _ _ (at-line c).loop.invariant _ c.before.find.ensures c.if1.false
+    (c : tie.Else-rest-length invariant-loop decreases-loop) → c.loop-at.at + c.find-length.result + 1 ≤ length c.args.text.now
+fits c = line_fits _ _ _ _ c.loop-at.invariant _ c.find-length.ensures c.if-rest-length.false
 
-add-next : tie.Need-overflow-add-next invariant-loop decreases-loop
+add-next : tie.Need-overflow_add-next invariant-loop decreases-loop
 add-next c = omega (arith, fits c)
 
-add-next-2 : tie.Need-overflow-add-next-2 invariant-loop decreases-loop
+add-next-2 : tie.Need-overflow_add-next-in-loop-at invariant-loop decreases-loop
 add-next-2 c = omega (arith, fits c)
 
-slice-aggregate-same : tie.Need-slice-aggregate-same invariant-loop decreases-loop
-slice-aggregate-same c = sym (length-take-le _ _ (le_of_lt c.before.if1.false))
+slice-aggregate-same : tie.Need-slice_bounds-same-end invariant-loop decreases-loop
+slice-aggregate-same c = sym (length-take-le _ _ (le_of_lt c.if-rest-length.false))
 
-returns-2 : tie.Need-returns-2 invariant-loop decreases-loop
+returns-2 : tie.Need-returns-then-same invariant-loop decreases-loop
 returns-2 c =
-    let e = c.before.before.before in
-    looked_here _ _ _ _ (at-line e).loop.invariant _ e.before.find.ensures e.if1.false (sym c.before.same.ensures ∙ c.if2.true)
+    looked_here _ _ _ _ c.loop-at.invariant _ c.find-length.ensures c.if-rest-length.false (sym c.same.ensures ∙ c.if-same.true)
 
-loop-less : tie.Need-loop-smaller invariant-loop decreases-loop
-loop-less c = omega (arith, fits c.before.before.before)
+loop-less : tie.Need-loop-at-smaller invariant-loop decreases-loop
+loop-less c = omega (arith, fits c.before.before)
 
-loop-again : tie.Need-loop-preserved invariant-loop decreases-loop
+loop-again : tie.Need-loop-at-preserved invariant-loop decreases-loop
 loop-again c =
-    let e = c.before.before.before in
-    looking_more _ _ _ _ (at-line e).loop.invariant _ e.before.find.ensures e.if1.false (sym c.before.same.ensures ∙ c.if2.false)
+    looking_more _ _ _ _ c.loop-at.invariant _ c.find-length.ensures c.if-rest-length.false (sym c.same.ensures ∙ c.if-same.false)
 
-returns-3 : tie.Need-returns-3 invariant-loop decreases-loop
-returns-3 c = looked_all _ _ _ _ c.before.loop.invariant c.loop-test.false
+returns-3 : tie.Need-returns invariant-loop decreases-loop
+returns-3 c = looked_all _ _ _ _ c.loop-at.invariant c.loop-at-test.false
 
 pub find_word_line_spec : {M : Type 1} → statement M
 find_word_line_spec =
@@ -73,9 +70,9 @@ find_word_line_spec =
     add-next-2
     slice-aggregate-same
     (λ c κs. search rules)
-    (λ c. omega (arith, (at-line c.before.before.before).loop.inv.few, fits c.before.before.before))
+    (λ c. omega (arith, c.loop-at.invariant.few, fits c.before.before))
     returns-2
-    (λ c. omega (arith, (at-line c.before.before.before).loop.inv.few, fits c.before.before.before))
+    (λ c. omega (arith, c.loop-at.invariant.few, fits c.before.before))
     loop-less
     loop-again
     returns-3)
