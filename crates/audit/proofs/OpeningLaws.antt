@@ -1,20 +1,17 @@
 -- The opening of an input and its line, by what was found. Others cite, of the line, `bad_line_lem` and `audit_line_lem`; of the opening, `no_first_line`, `first_broken`,
 -- `log_missing_long`, `log_missing` and `log_found`; and of the table's text, `text_refused` and `text_read`.
 use Prim.Native.Nat.{ℕ, ◌<◌, ◌≤◌}
-use mathlib.Core.Path.{◌≡◌, refl, sym, ap, ◌∙◌}
-use mathlib.Core.Bool.{true, false}
+use mathlib.Core.Path.{◌≡◌, ap, ◌∙◌}
 use mathlib.Core.List.{List}
 use borrow.Author.Tests.{lt-ltb, le-ltb}
 use lib.ListN.{length, take, drop}
 use Rattle.laws.proofs.Parts.{past}
-use Rattle.text.specs.Lines.{line_end, has, before, after}
+use Rattle.text.specs.Lines.{line_end, before}
 use Rattle.text.specs.Number.{number_after}
-use Rattle.text.specs.declared.number.Number.{Number}
 use Rattle.text.specs.declared.number.Number.TheVariants.{Read, Broken}
 use Rattle.text.proofs.Split.{cut, hasnt_of}
 use Rattle.tasks.specs.Limits.{max_text_length}
 use Rattle.tasks.specs.Refusals.{text_too_long}
-use Rattle.tasks.specs.declared.table.Table.{Table}
 use Rattle.tasks.specs.declared.outcome.Outcome.TheVariants as Out
 use Rattle.reader.specs.Reading.{reading}
 use Rattle.script.specs.Numbers.{max_digits, max_number}

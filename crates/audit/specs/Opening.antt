@@ -4,7 +4,6 @@ use Rattle.std.specs.Prelude.{ℕ, ◌^◌, ◌≤◌, ◌<◌, ◌≡◌, ◌�
 use Rattle.text.specs.Lines.{line_end, has, before, after}
 use Rattle.text.specs.Number.{number_after}
 use Rattle.text.specs.declared.number.Number.{Number}
-use Rattle.text.specs.declared.number.Number.TheVariants as Number
 use Rattle.tasks.specs.Limits.{max_text_length}
 use Rattle.tasks.specs.Refusals.{text_too_long}
 use Rattle.tasks.specs.declared.table.Table.{Table}

@@ -1,4 +1,6 @@
 // Audits the log of another dispatcher on standard input: prints whether it is accepted, its first offending line, or a refusal.
+#![tactic(auto)]
+
 use crate::opening::{Opening, open};
 use auditing::auditor::Audit;
 use script::output::put_bad_line;
@@ -54,10 +56,10 @@ fn put_line(output: &mut [u8], opening: Opening) -> usize
 }
 
 // Reads the input part by part, as long as it is not decided, and writes what is printed for it.
-fn print(space: [u8; PART_ROOM], room: [u8; PRINTED_ROOM]) {
+fn print(rt: &HostRuntime, space: [u8; PART_ROOM], room: [u8; PRINTED_ROOM]) {
     let mut input = space;
     let mut output = room;
-    let mut n = stdio::read_input(&mut input);
+    let mut n = stdio::read_input(rt, &mut input);
     let mut opening = open(&input[..n]);
     let mut left = MAX_PARTS;
     while 0 < left {
@@ -67,14 +69,14 @@ fn print(space: [u8; PART_ROOM], room: [u8; PRINTED_ROOM]) {
         if opening.is_decided() {
             break;
         }
-        n = stdio::read_input(&mut input);
+        n = stdio::read_input(rt, &mut input);
         opening = opening.feed(&input[..n]);
         left -= 1;
     }
     let used = put_line(&mut output, opening);
-    stdio::write_output(&output, used);
+    stdio::write_output(rt, &output, used);
 }
 
-fn main() {
-    print([0; PART_ROOM], [0; PRINTED_ROOM]);
+fn main(rt: HostRuntime) {
+    print(&rt, [0; PART_ROOM], [0; PRINTED_ROOM]);
 }

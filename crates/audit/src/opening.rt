@@ -13,7 +13,7 @@ use text::number::Number;
 use text::{bytes, number};
 
 // The number of the input's bad line, or 0 for none, and the auditor of its log.
-#[derive(Drop)]
+#[derive(Clone, Copy)]
 pub struct Opening {
     pub bad: usize,
     pub auditor: Auditor,

@@ -4,16 +4,14 @@
 -- answer nothing changes it; and `fed_whole`, that parts are fed one after the other.
 use Prim.Native.Nat.{ℕ, ◌+◌, ◌≤◌, ◌<◌}
 use mathlib.Core.Path.{◌≡◌, refl, sym, ◌∙◌}
+use Rattle.std.proofs.Common.{◌≢◌}
 use native.Mathlib.Omega.{arith}
-use mathlib.Core.Logic.{⊎_elim}
 use mathlib.Core.Bool.{true, false}
 use mathlib.Core.List.{List, [], ◌∷◌, ◌++◌}
 use native.Mathlib.Numerals.{add-one}
 use borrow.Author.Tests.{lt-ltb, le-ltb, eq-eqb, ne_eqb}
 use lib.ListN.{length, get_or, set, drop}
 use lib.Seq.{drop-cons}
-use types.Run.{OneOf}
-use denote.Enum.Declared.{tag_of}
 use Rattle.text.specs.Lines.{line_end}
 use Rattle.tasks.specs.Refusals.{bad_log_line}
 use Rattle.auditing.specs.Log.{is_names_line, is_value_line, values_of}
@@ -22,13 +20,12 @@ use Rattle.auditing.specs.Auditor.{line_room, goes_on, with_byte, kept_line, on_
 use Rattle.auditing.specs.Auditor.{fed_byte, fed, answer_of, fed_parts, whole}
 use Rattle.auditing.specs.declared.auditor.Audit.{Audit}
 use Rattle.auditing.specs.declared.auditor.Audit.TheVariants.{Accepted, Offends, Refused}
-use Rattle.auditing.specs.contracts.auditor.Audit.{the_type}
 use Rattle.auditing.specs.declared.auditor.Auditor.{Auditor}
 
--- an answer that is not the first of the three was found: their tags are 0 to 2
-pub was_found : (answer : Audit) → OneOf (1 ∷ 2 ∷ []) (tag_of the_type answer) → goes_on answer ≡ false
+-- an answer that is not the first of the three was found
+pub was_found : (answer : Audit) → answer ≢ Accepted → goes_on answer ≡ false
 unfolding goes_on
-was_found Accepted h = absurd (⊎_elim (λ e. omega (arith, e)) (λ e. omega (arith, e)) h)
+was_found Accepted h = absurd (h refl)
 was_found (Offends line) h = refl
 was_found (Refused number place) h = refl
 

@@ -18,7 +18,7 @@ pub const LINE_ROOM: usize = 33;
 const LAST_LINE: u64 = 18_446_744_073_709_551_615;
 
 // A log is accepted, or its first offending value line, from 1, is told, or a refusal with its place.
-#[derive(Drop)]
+#[derive(Clone, Copy)]
 pub enum Audit {
     Accepted,
     Offends(u64),
@@ -27,7 +27,7 @@ pub enum Audit {
 
 // What was found so far, the machine after the lines before, the number of the line that is being read, 0 for the names line, and its first
 // `used` bytes, of which no more than LINE_ROOM are kept.
-#[derive(Drop)]
+#[derive(Clone, Copy)]
 pub struct Auditor {
     pub answer: Audit,
     pub machine: Machine,

@@ -10,7 +10,7 @@ use tasks::flags::flags_of;
 use tasks::outcome::Outcome;
 
 // Whether a machine took all that it was to take, and, where it did, the machine after it.
-#[derive(Drop)]
+#[derive(Clone, Copy)]
 pub(crate) struct Taken {
     pub(crate) machine: Machine,
     pub(crate) all: bool,

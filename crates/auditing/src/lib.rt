@@ -1,4 +1,6 @@
 // Audits of logs from another dispatcher: document 02, change 11.
+#![tactic(auto)]
+
 use crate::auditor::{Audit, Auditor};
 use tasks::table::Table;
 

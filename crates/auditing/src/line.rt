@@ -11,7 +11,7 @@ const VALUE_DIGITS: usize = 10;
 const MAX_VALUE: u32 = 4_294_967_295;
 
 // The tasks that were released, were finished and ran in a slot, each as the sum of 2 to the power (task number - 1).
-#[derive(Drop)]
+#[derive(Clone, Copy)]
 pub struct LogLine {
     pub released: u32,
     pub finished: u32,
@@ -19,7 +19,7 @@ pub struct LogLine {
 }
 
 // The values of a line, or that it is broken.
-#[derive(Drop)]
+#[derive(Clone, Copy)]
 pub(crate) enum LineRead {
     Read(LogLine),
     Broken,

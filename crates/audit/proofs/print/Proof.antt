@@ -1,18 +1,16 @@
 -- `print` is safe and ends: at most 2^64 − 1 parts are read. The invariant: no more bytes are read than there is room for.
-use Prim.Native.Nat.{◌≤◌}
 use native.Mathlib.Omega.{arith}
-use mathlib.Core.Path.{◌≡◌, refl, sym}
+use mathlib.Core.Path.{◌≡◌}
 use borrow.Author.Rules.{rules}
 use lib.ListN.{length}
-use lib.Seq.{length-take-le}
 use Rattle.audit.proofs.print.Statement.{statement}
 use Rattle.audit.proofs.print.Tie as tie
 
-abbrev invariant-loop : tie.invariant-loop
-invariant-loop input₀ output n₀ opening₀ left₀ input n opening left = length input ≡ 65_536
+abbrev invariant-loop : tie.invariant-loop-left
+invariant-loop rt input₀ output n₀ opening₀ left₀ input n opening left = length input ≡ 65_536
 
-abbrev decreases-loop : tie.decreases-loop
-decreases-loop input₀ output n₀ opening₀ left₀ input n opening left = left
+abbrev decreases-loop : tie.decreases-loop-left
+decreases-loop rt input₀ output n₀ opening₀ left₀ input n opening left = left
 
 pub print_spec : {M : Type 1} → statement M
 print_spec =

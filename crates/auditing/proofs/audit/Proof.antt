@@ -13,11 +13,9 @@ use Rattle.auditing.proofs.audit.Tie as tie
 
 returns : tie.Need-returns
 returns c =
-    let f = c.before in
-    let s = f.before in
-    let log = s.before.before.args.log.now in
+    let log = c.args.log.now in
     let few : length log < 2 ^ 64 = omega arith in
-    ap audit_values_of (c.conclude.ensures ∙ ap answer_of (f.feed.ensures ∙ ap (λ (a : Auditor). fed a log) s.start.ensures)) ∙ fed_log _ _ _ few
+    ap audit_values_of (c.conclude.ensures ∙ ap answer_of (c.feed-fed.ensures ∙ ap (λ (a : Auditor). fed a log) c.start-auditor.ensures)) ∙ fed_log _ _ _ few
 
 pub audit_spec : {M : Type 1} → statement M
 audit_spec =

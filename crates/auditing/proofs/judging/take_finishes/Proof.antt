@@ -4,20 +4,20 @@ use native.Mathlib.Nat.{div-add-mod'}
 use native.Mathlib.Numerals.{add-one}
 use native.Mathlib.Omega.{arith}
 use mathlib.Core.Path.{◌≡◌, sym, ap, ◌∙◌}
-use mathlib.Core.Logic.{⊎_elim}
 use borrow.Author.Rules.{rules}
 use Rattle.machine.specs.Calls.{finish, step}
 use Rattle.machine.specs.declared.machine.Machine.{Machine}
 use Rattle.machine.specs.declared.answer.Answer.{Answer}
 use Rattle.auditing.specs.Line.{finish_at}
 use Rattle.auditing.proofs.CallsLeft.{CallsLeft, left_none, some_left, left_idle, left_taken, left_refused, left_all}
+use Rattle.auditing.proofs.judging.take_finishes.Lts.{then-rest-eq1+in-Done, else-rest-eq1}
 use Rattle.auditing.proofs.judging.take_finishes.Statement.{statement}
 use Rattle.auditing.proofs.judging.take_finishes.Tie as tie
 
-abbrev invariant-loop : tie.invariant-loop
+abbrev invariant-loop : tie.invariant-loop-rest
 invariant-loop finished after₀ rest₀ i₀ after rest i = CallsLeft finish_at after₀ finished after rest i
 
-abbrev decreases-loop : tie.decreases-loop
+abbrev decreases-loop : tie.decreases-loop-rest
 decreases-loop finished after₀ rest₀ i₀ after rest i = rest
 
 -- the code's call is the definition's
@@ -26,31 +26,28 @@ unfolding step finish_at
 is-step m i r e = sym (rw (add-one i) at e)
 
 -- the task is one of 32
-inside : (c : tie.In-loop invariant-loop decreases-loop) → c.before.loop.i < 32
-inside c = some_left _ _ _ _ _ _ c.before.loop.invariant c.loop-test.true
+inside : (c : tie.In-loop-rest invariant-loop decreases-loop) → c.loop-rest.i < 32
+inside c = some_left _ _ _ _ _ _ c.loop-rest.invariant c.loop-rest-test.true
 
-returns : tie.Need-returns invariant-loop decreases-loop
+returns : tie.Need-returns-in_default invariant-loop decreases-loop
 returns c =
-    let f = c.before.before in
-    let l = f.before.before in
-    let here = is-step _ _ _ f.finish.ensures in
-    left_refused _ _ _ _ _ _ l.before.loop.invariant l.loop-test.true f.before.if1.true _ _
-    (ap (λ (r : Answer). r.outcome) here ∙ c.enum-told2.given.1)
+    let here = is-step _ _ _ c.finish-answer.ensures in
+    left_refused _ _ _ _ _ _ c.loop-rest.invariant c.loop-rest-test.true c.if-rest-eq1.true _ _
+    (ap (λ (r : Answer). r.outcome) here ∙ c.in_default.is)
 
-loop-again : tie.Need-loop-preserved invariant-loop decreases-loop
+loop-again : tie.Need-loop-rest-preserved invariant-loop decreases-loop
 loop-again c =
-    let l = c.before in
-    ⊎_elim
-    (λ w.
-    let here = is-step _ _ _ w.1.ensures in
-    rw (w.5 ∙ ap (λ (r : Answer). r.machine) (sym here))
-    (left_taken _ _ _ _ _ _ l.before.loop.invariant l.loop-test.true w.0.taken
-    (ap (λ (r : Answer). r.outcome) here ∙ w.3.given.1)))
-    (λ w. rw w.1 (left_idle _ _ _ _ _ _ l.before.loop.invariant l.loop-test.true w.0.left))
-    c.if1.branch
+    elim c.if-rest-eq1.branch [
+      | then-rest-eq1+in-Done w ↦
+          let here = is-step _ _ _ w.finish-answer.ensures in
+          rw (w.after-is ∙ ap (λ (r : Answer). r.machine) (sym here))
+          (left_taken _ _ _ _ _ _ c.loop-rest.invariant c.loop-rest-test.true w.if-rest-eq1.true
+          (ap (λ (r : Answer). r.outcome) here ∙ w.in-Done.is))
+      | else-rest-eq1 w ↦ rw w.after-is (left_idle _ _ _ _ _ _ c.loop-rest.invariant c.loop-rest-test.true w.if-rest-eq1.false)
+    ]
 
-returns-2 : tie.Need-returns-2 invariant-loop decreases-loop
-returns-2 c = left_all _ _ _ _ _ _ c.before.loop.invariant (omega arith)
+returns-2 : tie.Need-returns invariant-loop decreases-loop
+returns-2 c = left_all _ _ _ _ _ _ c.loop-rest.invariant (omega arith)
 
 pub take_finishes_spec : {M : Type 1} → statement M
 take_finishes_spec =
@@ -66,6 +63,6 @@ take_finishes_spec =
     (λ c. search rules)
     returns
     (λ c. omega (arith, inside c.before))
-    (λ c. omega (arith, c.before.loop-test.true, div-add-mod' c.before.before.loop.rest 2))
+    (λ c. omega (arith, c.loop-rest-test.true, div-add-mod' c.loop-rest.rest 2))
     loop-again
     returns-2)

@@ -10,50 +10,39 @@ use Rattle.auditing.proofs.LineByParts.{sound_before, release_refused, finish_re
 use Rattle.auditing.proofs.judging.take_line.Statement.{statement}
 use Rattle.auditing.proofs.judging.take_line.Tie as tie
 
-returns : tie.Need-returns
-returns c = release_refused _ _ _ c.before.before.take-releases.ensures (not-true _ c.if1.true)
+returns : tie.Need-returns-then-not-released
+returns c = release_refused _ _ _ c.take_releases-released.ensures (not-true _ c.if-not-released.true)
 
-returns-2 : tie.Need-returns-2
+returns-2 : tie.Need-returns-then-not-finished
 returns-2 c =
-    let f = c.before.before in
-    let r = f.before.before in
-    finish_refused _ _ _ r.before.before.take-releases.ensures (not-false _ r.if1.false) _ f.take-finishes.ensures (not-true _ c.if2.true)
+    finish_refused _ _ _ c.take_releases-released.ensures (not-false _ c.if-not-released.false) _ c.take_finishes-finished.ensures (not-true _ c.if-not-finished.true)
 
 -- the running's answer is the definition's
 running_is :
-    (c : tie.After-slot-with)
-    → let f = c.before.before.before.before.before in
-    c.slot-with.result ≡ slot_with f.take-finishes.result.machine (flags_of f.before.before.before.before.before.args.line.ran)
-running_is c = c.slot-with.ensures ∙ ap (slot_with _) c.before.flags_of.ensures
+    (c : tie.After-slot_with-answer)
+    → c.slot_with-answer.result ≡ slot_with c.take_finishes-finished.result.machine (flags_of c.args.line.ran)
+running_is c = c.slot_with-answer.ensures ∙ ap (slot_with _) c.flags_of-ran.ensures
 
-returns-3 : tie.Need-returns-3
+returns-3 : tie.Need-returns-in_default
 returns-3 c =
-    let s = c.before.before in
-    let f = s.before.before.before.before.before in
-    let r = f.before.before in
-    running_refused _ _ _ r.before.before.take-releases.ensures (not-false _ r.if1.false) _ f.take-finishes.ensures
-    (not-false _ s.before.before.before.if2.false)
+    running_refused _ _ _ c.take_releases-released.ensures (not-false _ c.if-not-released.false) _ c.take_finishes-finished.ensures
+    (not-false _ c.if-not-finished.false)
     _
     _
-    (ap (λ (x : Answer). x.outcome) (sym (running_is s)) ∙ c.enum-told2.given.1)
+    (ap (λ (x : Answer). x.outcome) (sym (running_is c.before)) ∙ c.in_default.is)
 
-legal-run-requires : tie.Need-legal-run-requires
+legal-run-requires : tie.Need-legal_run-legal-requires
 unfolding is_done
 legal-run-requires c κs =
-    let s = c.before.before.before in
-    sound_before _ _ (ap (λ (x : Answer). is_done x.outcome) (sym (running_is s)) ∙ ap is_done c.before.enum_told.given.1)
+    sound_before _ _ (ap (λ (x : Answer). is_done x.outcome) (sym (running_is c.before.before)) ∙ ap is_done c.in-Done.is)
 
-returns-4 : tie.Need-returns-4
+returns-4 : tie.Need-returns
 returns-4 c =
-    let t = c.before.before in
-    let s = t.before.before in
-    let f = s.before.before.before.before.before in
-    let r = f.before.before in
     let judged =
-    line_judged _ _ _ r.before.before.take-releases.ensures (not-false _ r.if1.false) _ f.take-finishes.ensures
-    (not-false _ s.before.before.before.if2.false)
-    (ap (λ (x : Answer). x.outcome) (sym (running_is s)) ∙ t.enum_told.given.1) in
-    rw (running_is s, c.legal_run_lem.ensures, s.before.flags_of.ensures) judged
+    line_judged _ _ _ c.take_releases-released.ensures (not-false _ c.if-not-released.false) _ c.take_finishes-finished.ensures
+    (not-false _ c.if-not-finished.false)
+    (ap (λ (x : Answer). x.outcome) (sym (running_is c.before.before.before)) ∙ c.in-Done.is) in
+    rw (running_is c.before.before.before, c.legal_run-legal.ensures, c.flags_of-ran.ensures) judged
 
 pub take_line_spec : {M : Type 1} → statement M
 take_line_spec =

@@ -7,14 +7,13 @@ use Rattle.auditing.proofs.LineReadLaws.{no_values, values_read}
 use Rattle.auditing.proofs.line.read_line.Statement.{statement}
 use Rattle.auditing.proofs.line.read_line.Tie as tie
 
-returns : tie.Need-returns
+returns : tie.Need-returns-then-not-fill_from_line
 unfolding is_value_line
-returns c = no_values _ (was_false c.before.before.fill-from-line.ensures.is c.if1.true)
+returns c = no_values _ (was_false c.fill_from_line.ensures.is c.if-not-fill_from_line.true-raw)
 
-returns-2 : tie.Need-returns-2
+returns-2 : tie.Need-returns
 returns-2 c =
-    let n = c.before.before in
-    values_read _ _ (rw (not-false n.fill-from-line.result c.if1.false) at n.fill-from-line.ensures)
+    values_read _ _ (rw (not-false c.fill_from_line.result c.if-not-fill_from_line.false-raw) at c.fill_from_line.ensures)
 
 pub read_line_spec : {M : Type 1} → statement M
 read_line_spec =

@@ -4,7 +4,6 @@ use native.Mathlib.Numerals.{add-one}
 use native.Mathlib.Omega.{arith}
 use mathlib.Core.Path.{◌≡◌, refl, sym, ◌∙◌}
 use mathlib.Core.Bool.{true}
-use mathlib.Core.Logic.{⊎_elim}
 use borrow.Author.Rules.{rules}
 use borrow.Author.Tests.{lt-ltb, le-ltb}
 use Rattle.laws.specs.Sums.{sum_to, bit}
@@ -19,23 +18,24 @@ use Rattle.machine.specs.declared.machine.Machine.{Machine}
 use Rattle.machine.proofs.SoundLaws.{sound_passes}
 use Rattle.auditing.specs.Turn.{never, turn}
 use Rattle.auditing.proofs.AllowedByTurns.{Seen, seen_none, seen_ran, seen_idle, open_by_turn, wrong_number, closed_ran, one_beaten, legal_else}
+use Rattle.auditing.proofs.running.legal_run.Lts.{then-turn-lt-NEVER, else-turn-lt-NEVER, then-ran-i+then-last-turn, then-ran-i+else-last-turn, else-ran-i+then-turn-first, else-ran-i+else-turn-first, then-open-wanted, else-open-wanted}
 use Rattle.auditing.proofs.running.legal_run.Statement.{statement}
 use Rattle.auditing.proofs.running.legal_run.Tie as tie
 
-abbrev invariant-loop : tie.invariant-loop
+abbrev invariant-loop : tie.invariant-loop-i
 invariant-loop machine ran count open₀ runners₀ last₀ first₀ i₀ «open» runners last first i =
     (i ≤ count) × («open» ≤ i) × (runners ≤ i) × («open» ≡ sum_to i (λ k. bit (job_at machine k).«open»)) × Seen machine ran runners last first i
 
-abbrev decreases-loop : tie.decreases-loop
+abbrev decreases-loop : tie.decreases-loop-i
 decreases-loop machine ran count open₀ runners₀ last₀ first₀ i₀ «open» runners last first i = count - i
 
-loop-holds : tie.Need-loop-init invariant-loop decreases-loop
+loop-holds : tie.Need-loop-i-init invariant-loop decreases-loop
 unfolding sum_to
 loop-holds c = (omega arith, omega arith, omega arith, refl, seen_none _ _)
 
 -- the table has 32 tasks at most
-inside : (c : tie.In-loop invariant-loop decreases-loop) → c.before.loop.i < 32
-inside c = omega (arith, (sound_passes _ c.before.before.requires).count_fits)
+inside : (c : tie.In-loop-i invariant-loop decreases-loop) → c.loop-i.i < 32
+inside c = omega (arith, (sound_passes _ c.requires).count_fits)
 
 -- one open task more where the turn says so
 open_more :
@@ -54,52 +54,50 @@ open_more m i o o' t ok h e more same is =
     rw (add-one i) (omega (arith, more opened)))
 
 -- the turn of the task at hand
-turn_is : (c : tie.After-turn invariant-loop decreases-loop) → let l = c.before.before in c.turn.result ≡ turn (job_at l.before.before.args.t1 l.before.loop.i)
+turn_is : (c : tie.After-turn-turn invariant-loop decreases-loop) → c.turn-turn.result ≡ turn (job_at c.args.machine c.loop-i.i)
 unfolding job_at fresh_job
-turn_is c = c.turn.ensures
+turn_is c = c.turn-turn.ensures
 
 -- the open tasks with it
 open_is :
-    (c : tie.Joined1 invariant-loop decreases-loop)
-    → let l = c.before.before.before in
-    (c.if1.«open» ≡ sum_to (l.before.loop.i + 1) (λ k. bit (job_at l.before.before.args.t1 k).«open»)) × (c.if1.«open» ≤ l.before.loop.i + 1)
+    (c : tie.Joined-turn-lt-NEVER invariant-loop decreases-loop)
+    → (c.if-turn-lt-NEVER.«open» ≡ sum_to (c.loop-i.i + 1) (λ k. bit (job_at c.args.machine k).«open»)) × (c.if-turn-lt-NEVER.«open» ≤ c.loop-i.i + 1)
 open_is c =
-    let l = c.before.before.before in
-    let inv = l.before.loop.invariant in
-    let m = l.before.before.args.t1 in
-    ⊎_elim
-    (λ w. (
-      open_more m _ l.before.loop.«open» c.if1.«open» _ l.before.before.requires l.loop-test.true (turn_is c.before)
-          (λ h. omega (arith, w.1)) (λ h. absurd (omega (arith, w.0.taken))) inv.3,
-      omega (arith, w.1, inv),
-    ))
-    (λ w. (
-      open_more m _ l.before.loop.«open» c.if1.«open» _ l.before.before.requires l.loop-test.true (turn_is c.before)
-          (λ h. absurd (omega (arith, w.0.left))) (λ h. omega (arith, w.1)) inv.3,
-      omega (arith, w.1, inv),
-    ))
-    c.if1.branch
+    let inv = c.loop-i.invariant in
+    let m = c.args.machine in
+    elim c.if-turn-lt-NEVER.branch [
+      | then-turn-lt-NEVER w ↦ (
+        open_more m _ c.loop-i.«open» c.if-turn-lt-NEVER.«open» _ c.requires c.loop-i-test.true (turn_is c.before)
+            (λ h. omega arith) (λ h. absurd (omega arith)) inv.3,
+        omega (arith, inv),
+      )
+      | else-turn-lt-NEVER w ↦ (
+        open_more m _ c.loop-i.«open» c.if-turn-lt-NEVER.«open» _ c.requires c.loop-i-test.true (turn_is c.before)
+            (λ h. absurd (omega arith)) (λ h. omega arith) inv.3,
+        omega (arith, inv),
+      )
+    ]
 
 -- what is seen with it
 seen-is :
-    (c : tie.Joined2 invariant-loop decreases-loop)
-    → let l = c.before.before.before.before in
-    let i = l.before.loop.i in
-    (c.if2.runners ≤ i + 1) × Seen l.before.before.args.t1 l.before.before.args.t2 c.if2.runners c.if2.new c.if2.first (i + 1)
+    (c : tie.Joined-ran-i invariant-loop decreases-loop)
+    → let i = c.loop-i.i in
+    (c.if-ran-i.runners ≤ i + 1) × Seen c.args.machine c.args.ran c.if-ran-i.runners c.if-ran-i.last c.if-ran-i.first (i + 1)
 seen-is c =
-    let l = c.before.before.before.before in
-    let inv = l.before.loop.invariant in
+    let inv = c.loop-i.invariant in
     let t = turn_is c.before.before in
-    ⊎_elim
-    (λ w. (omega (arith, w.2, inv), rw w.4 (seen_ran _ _ inv.4 w.0.taken _ _ w.2 (omega (arith, w.3, w.1.taken, t)))))
-    (⊎_elim
-    (λ w. (omega (arith, w.2, inv), rw w.4 (seen_ran _ _ inv.4 w.0.taken _ _ w.2 (omega (arith, w.3, w.1.left, t)))))
-    (⊎_elim
-    (λ w. (omega (arith, w.2, inv), rw (w.2, w.3) (seen_idle _ _ inv.4 w.0.left _ (omega (arith, w.4, w.1.taken, t)))))
-    (λ w. (omega (arith, w.2, inv), rw (w.2, w.3) (seen_idle _ _ inv.4 w.0.left _ (omega (arith, w.4, w.1.left, t)))))))
-    c.if2.branch
+    elim c.if-ran-i.branch [
+      | then-ran-i+then-last-turn w ↦
+          (omega (arith, inv), rw w.first-is (seen_ran _ _ inv.4 w.if-ran-i.true _ _ w.runners-is (omega (arith, t))))
+      | then-ran-i+else-last-turn w ↦
+          (omega (arith, inv), rw w.first-is (seen_ran _ _ inv.4 w.if-ran-i.true _ _ w.runners-is (omega (arith, t))))
+      | else-ran-i+then-turn-first w ↦
+          (omega (arith, inv), rw (w.runners-is, w.last-is) (seen_idle _ _ inv.4 w.if-ran-i.false _ (omega (arith, t))))
+      | else-ran-i+else-turn-first w ↦
+          (omega (arith, inv), rw (w.runners-is, w.last-is) (seen_idle _ _ inv.4 w.if-ran-i.false _ (omega (arith, t))))
+    ]
 
-loop-again : tie.Need-loop-preserved invariant-loop decreases-loop
+loop-again : tie.Need-loop-i-preserved invariant-loop decreases-loop
 loop-again c =
     let o = open_is c.before in
     let s = seen-is c in
@@ -107,54 +105,49 @@ loop-again c =
 
 -- after the loop: all tasks are seen
 seen_all :
-    (c : tie.After-loop invariant-loop decreases-loop)
-    → let a = c.before.before.args in Seen a.t1 a.t2 c.before.loop.runners c.before.loop.last c.before.loop.first a.t1.table.count
+    (c : tie.After-loop-i invariant-loop decreases-loop)
+    → let a = c.args in Seen a.machine a.ran c.loop-i.runners c.loop-i.last c.loop-i.first a.machine.table.count
 seen_all c =
-    let e : c.before.loop.i ≡ c.before.before.args.t1.table.count = omega (arith, c.before.loop.invariant) in
-    rw e at c.before.loop.invariant.4
+    let e : c.loop-i.i ≡ c.args.machine.table.count = omega (arith, c.loop-i.invariant) in
+    rw e at c.loop-i.invariant.4
 
-open-all : (c : tie.After-loop invariant-loop decreases-loop) → c.before.loop.«open» ≡ open_count c.before.before.args.t1
+open-all : (c : tie.After-loop-i invariant-loop decreases-loop) → c.loop-i.«open» ≡ open_count c.args.machine
 unfolding open_count
 open-all c =
-    let e : c.before.loop.i ≡ c.before.before.args.t1.table.count = omega (arith, c.before.loop.invariant) in
-    rw e at c.before.loop.invariant.3
+    let e : c.loop-i.i ≡ c.args.machine.table.count = omega (arith, c.loop-i.invariant) in
+    rw e at c.loop-i.invariant.3
 
 -- as many are to run as there are cores or open tasks
-wanted-is : (c : tie.Joined5 invariant-loop decreases-loop) → let m = c.before.before.before.args.t1 in c.if5.wanted ≡ min m.cores (open_count m)
+wanted-is : (c : tie.Joined-open-wanted invariant-loop decreases-loop) → let m = c.args.machine in c.if-open-wanted.wanted ≡ min m.cores (open_count m)
 wanted-is c =
     let o = open-all c.before in
-    ⊎_elim (λ w. omega (arith, w.0.taken, w.1)) (λ w. omega (arith, w.0.left, w.1)) c.if5.branch
+    elim c.if-open-wanted.branch [ then-open-wanted w ↦ omega arith | else-open-wanted w ↦ omega arith ]
 
-number_is : (c : tie.Joined5 invariant-loop decreases-loop) → let a = c.before.before.before.args in c.before.before.loop.runners ≡ ran_count a.t1 a.t2
+number_is : (c : tie.Joined-open-wanted invariant-loop decreases-loop) → let a = c.args in c.loop-i.runners ≡ ran_count a.machine a.ran
 unfolding ran_count
 number_is c = (seen_all c.before).number_is
 
-returns : tie.Need-returns invariant-loop decreases-loop
+returns : tie.Need-returns-then-runners-wanted invariant-loop decreases-loop
 returns c =
-    let j = c.before in
-    sym (wrong_number _ _ j.before.before.before.requires (λ e. c.if6.true (number_is j ∙ e ∙ sym (wanted-is j))))
+    sym (wrong_number _ _ c.requires (λ e. absurd (omega (arith, number_is c.before, e, wanted-is c.before, c.if-runners-wanted.true))))
 
-returns-2 : tie.Need-returns-2 invariant-loop decreases-loop
+returns-2 : tie.Need-returns-then-last-eq-NEVER invariant-loop decreases-loop
 returns-2 c =
-    let j = c.before.before in
-    sym (closed_ran _ _ j.before.before.before.requires (sym (seen_all j.before).last_is_lem ∙ c.if7.true))
+    sym (closed_ran _ _ c.requires (sym (seen_all c.before.before.before).last_is_lem ∙ c.if-last-eq-NEVER.true))
 
-returns-3 : tie.Need-returns-3 invariant-loop decreases-loop
+returns-3 : tie.Need-returns-then-first-last invariant-loop decreases-loop
 returns-3 c =
-    let j = c.before.before.before in
-    let s = seen_all j.before in
-    sym (one_beaten _ _ j.before.before.before.requires (omega (arith, s.last_is_lem, s.first_is_lem, c.if8.true)))
+    let s = seen_all c.before.before.before.before in
+    sym (one_beaten _ _ c.requires (omega (arith, s.last_is_lem, s.first_is_lem, c.if-first-last.true)))
 
-returns-4 : tie.Need-returns-4 invariant-loop decreases-loop
+returns-4 : tie.Need-returns invariant-loop decreases-loop
 returns-4 c =
-    let e = c.before in
-    let j = e.before.before.before in
-    let s = seen_all j.before in
-    c.none_past_lem.ensures
+    let s = seen_all c.before.before.before.before.before in
+    c.none_past.ensures
     ∙ sym
-    (legal_else _ _ j.before.before.before.requires (sym (number_is j) ∙ omega (arith, e.before.before.if6.false) ∙ wanted-is j)
-    (λ h. e.before.if7.false (s.last_is_lem ∙ h))
-    (omega (arith, s.last_is_lem, s.first_is_lem, e.if8.false)))
+    (legal_else _ _ c.requires (sym (number_is c.before.before.before.before) ∙ omega (arith, c.if-runners-wanted.false) ∙ wanted-is c.before.before.before.before)
+    (λ h. c.if-last-eq-NEVER.false (s.last_is_lem ∙ h))
+    (omega (arith, s.last_is_lem, s.first_is_lem, c.if-first-last.false)))
 
 pub legal_run_spec : {M : Type 1} → statement M
 legal_run_spec =

@@ -11,13 +11,13 @@ use Rattle.auditing.specs.Turn.{none_from, none_past}
 use Rattle.auditing.proofs.running.none_past.Statement.{statement}
 use Rattle.auditing.proofs.running.none_past.Tie as tie
 
-abbrev invariant-loop : tie.invariant-loop
+abbrev invariant-loop : tie.invariant-loop-i
 invariant-loop count ran i₀ i = none_past ran count ≡ none_from ran i (max_tasks - i)
 
-abbrev decreases-loop : tie.decreases-loop
+abbrev decreases-loop : tie.decreases-loop-i
 decreases-loop count ran i₀ i = max_tasks - i
 
-loop-holds : tie.Need-loop-init invariant-loop decreases-loop
+loop-holds : tie.Need-loop-i-init invariant-loop decreases-loop
 unfolding none_past
 loop-holds c = refl
 
@@ -34,18 +34,16 @@ none_left : (ran : List Bool) (i : ℕ) → max_tasks ≤ i → none_from ran i 
 unfolding none_from
 none_left ran i h = let none : max_tasks - i ≡ 0 = omega arith in rw none
 
-returns : tie.Need-returns invariant-loop decreases-loop
+returns : tie.Need-returns-then-ran-i invariant-loop decreases-loop
 returns c =
-    let l = c.before in
-    sym (l.before.loop.invariant ∙ set_here _ _ l.loop-test.true c.if1.true)
+    sym (c.loop-i.invariant ∙ set_here _ _ c.loop-i-test.true c.if-ran-i.true)
 
-loop-again : tie.Need-loop-preserved invariant-loop decreases-loop
+loop-again : tie.Need-loop-i-preserved invariant-loop decreases-loop
 loop-again c =
-    let l = c.before in
-    l.before.loop.invariant ∙ unset-here _ _ l.loop-test.true c.if1.false
+    c.loop-i.invariant ∙ unset-here _ _ c.loop-i-test.true c.if-ran-i.false
 
-returns-2 : tie.Need-returns-2 invariant-loop decreases-loop
-returns-2 c = sym (c.before.loop.invariant ∙ none_left _ _ (omega (arith, c.loop-test.false)))
+returns-2 : tie.Need-returns invariant-loop decreases-loop
+returns-2 c = sym (c.loop-i.invariant ∙ none_left _ _ (omega (arith, c.loop-i-test.false)))
 
 pub none_past_spec : {M : Type 1} → statement M
 none_past_spec =

@@ -6,18 +6,16 @@ use Rattle.auditing.proofs.TurnLaws.{turn_closed, turn_urgent, turn_later}
 use Rattle.auditing.proofs.running.turn.Statement.{statement}
 use Rattle.auditing.proofs.running.turn.Tie as tie
 
-returns : tie.Need-returns
-returns c = sym (turn_closed _ (not-true _ c.if1.true))
+returns : tie.Need-returns-then-not-job
+returns c = sym (turn_closed _ (not-true _ c.if-not-job.true))
 
-returns-2 : tie.Need-returns-2
+returns-2 : tie.Need-returns-then-is_urgent
 returns-2 c =
-    let u = c.before.before in
-    sym (turn_urgent _ (not-false _ u.before.if1.false) (sym u.is-urgent.ensures ∙ c.before.if2.true))
+    sym (turn_urgent _ (not-false _ c.if-not-job.false) (sym c.is_urgent.ensures ∙ c.if-is_urgent.true))
 
-returns-3 : tie.Need-returns-3
+returns-3 : tie.Need-returns
 returns-3 c =
-    let u = c.before.before in
-    sym (turn_later _ (not-false _ u.before.if1.false) (sym u.is-urgent.ensures ∙ c.before.if2.false))
+    sym (turn_later _ (not-false _ c.if-not-job.false) (sym c.is_urgent.ensures ∙ c.if-is_urgent.false))
 
 pub turn_spec : {M : Type 1} → statement M
 turn_spec =

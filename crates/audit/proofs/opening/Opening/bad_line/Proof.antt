@@ -6,7 +6,7 @@ use Rattle.audit.proofs.opening.Opening.bad_line.Tie as tie
 
 returns : tie.Need-returns
 unfolding bad_opening
-returns c = rw c.refused.ensures
+returns c = rw c.refused-auditor.ensures
 
 pub bad_line_spec : {M : Type 1} → statement M
 bad_line_spec =

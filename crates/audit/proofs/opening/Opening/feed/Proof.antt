@@ -6,7 +6,7 @@ use Rattle.audit.proofs.opening.Opening.feed.Tie as tie
 
 returns : tie.Need-returns
 unfolding goes_on_with
-returns c = rw c.feed.ensures
+returns c = rw c.feed-auditor.ensures
 
 pub feed_spec : {M : Type 1} → statement M
 feed_spec =

@@ -9,4 +9,5 @@ unfolding good_opening
 returns c = refl
 
 pub good_spec : {M : Type 1} → statement M
-good_spec = tie.close (tie.spec returns)
+good_spec = tie.close (tie.spec
+    returns)

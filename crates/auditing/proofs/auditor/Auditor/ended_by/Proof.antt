@@ -9,4 +9,5 @@ unfolding ended_by
 returns c = refl
 
 pub ended_by_spec : {M : Type 1} → statement M
-ended_by_spec = tie.close (tie.spec returns)
+ended_by_spec = tie.close (tie.spec
+    returns)

@@ -3,19 +3,19 @@ use Prim.Native.Nat.{ℕ, ◌+◌, ◌-◌, ◌≤◌}
 use native.Mathlib.Omega.{arith}
 use mathlib.Core.Path.{◌≡◌, refl, sym, ap, ◌∙◌}
 use mathlib.Core.List.{List}
-use mathlib.Core.Logic.{⊎_elim}
 use borrow.Author.Rules.{rules}
 use lib.ListN.{length, get_or, drop, drop_of_length-le}
 use Rattle.auditing.specs.Auditor.{fed_byte, fed}
 use Rattle.auditing.specs.declared.auditor.Auditor.{Auditor}
 use Rattle.auditing.proofs.AuditorLaws.{was_found, fed_found, fed_next, byte_ends, byte_kept, byte_dropped}
+use Rattle.auditing.proofs.auditor.Auditor.feed.Lts.{then-part-i-eq10, else-part-i-eq10+then-used-lt-LINE_ROOM, else-part-i-eq10+else-used-lt-LINE_ROOM}
 use Rattle.auditing.proofs.auditor.Auditor.feed.Statement.{statement}
 use Rattle.auditing.proofs.auditor.Auditor.feed.Tie as tie
 
-abbrev invariant-loop : tie.invariant-loop
+abbrev invariant-loop : tie.invariant-loop-i
 invariant-loop part auditor₀ i₀ auditor i = (i ≤ length part) × (fed auditor₀ part ≡ fed auditor (drop i part))
 
-abbrev decreases-loop : tie.decreases-loop
+abbrev decreases-loop : tie.decreases-loop-i
 decreases-loop part auditor₀ i₀ auditor i = length part - i
 
 -- past the last byte
@@ -23,32 +23,30 @@ fed-all : (a : Auditor) (s : List ℕ) (i : ℕ) → length s ≤ i → fed a (d
 unfolding fed
 fed-all a s i h = rw (drop_of_length-le s h)
 
-returns : tie.Need-returns invariant-loop decreases-loop
+returns : tie.Need-returns-in_default invariant-loop decreases-loop
 returns c =
-    let l = c.before.before in
-    sym (l.loop.invariant.1 ∙ fed_found _ _ (was_found _ c.match.keys2))
+    sym (c.loop-i.invariant.1 ∙ fed_found _ _ (was_found _ c.in_default.not-Accepted))
 
-loop-again : tie.Need-loop-preserved invariant-loop decreases-loop
+loop-again : tie.Need-loop-i-preserved invariant-loop decreases-loop
 loop-again c =
-    let t = c.before.before in
-    let l = t.before.before in
-    let s = l.before.before.before.args.part.now in
-    let rest = drop (l.before.loop.i + 1) s in
-    let on = t.enum_told.given.1 in
-    let next = l.before.loop.invariant.1 ∙ fed_next l.before.loop.auditor s l.before.loop.i l.loop-test.true in (
+    let s = c.args.part.now in
+    let rest = drop (c.loop-i.i + 1) s in
+    let on = c.in-Accepted.is in
+    let next = c.loop-i.invariant.1 ∙ fed_next c.loop-i.auditor s c.loop-i.i c.loop-i-test.true in (
       omega arith,
       next
           ∙ ap (λ (a : Auditor). fed a rest)
-          (⊎_elim {C = fed_byte l.before.loop.auditor (get_or s l.before.loop.i 0) ≡ c.if1.auditor}
-          (λ w. byte_ends _ on _ w.0.taken ∙ sym w.1.ensures ∙ sym w.2)
-          (⊎_elim
-          (λ w. byte_kept _ on _ w.0.left w.1.taken ∙ sym w.3)
-          (λ w. byte_dropped _ on _ w.0.left (omega (arith, w.1.left)) ∙ sym w.2))
-          c.if1.branch),
+          (elim c.if-part-i-eq10.branch as (λ _. fed_byte c.loop-i.auditor (get_or s c.loop-i.i 0) ≡ c.if-part-i-eq10.auditor) [
+            | then-part-i-eq10 w ↦ byte_ends _ on _ w.if-part-i-eq10.true ∙ sym w.line_ended-auditor.ensures ∙ sym w.auditor-is
+            | else-part-i-eq10+then-used-lt-LINE_ROOM w ↦
+                byte_kept _ on _ w.if-part-i-eq10.false w.if-used-lt-LINE_ROOM.true ∙ sym w.auditor-is
+            | else-part-i-eq10+else-used-lt-LINE_ROOM w ↦
+                byte_dropped _ on _ w.if-part-i-eq10.false (omega arith) ∙ sym w.auditor-is
+          ]),
     )
 
-returns-2 : tie.Need-returns-2 invariant-loop decreases-loop
-returns-2 c = sym (c.before.loop.invariant.1 ∙ fed-all _ _ _ c.loop-test.false)
+returns-2 : tie.Need-returns invariant-loop decreases-loop
+returns-2 c = sym (c.loop-i.invariant.1 ∙ fed-all _ _ _ c.loop-i-test.false)
 
 pub feed_spec : {M : Type 1} → statement M
 feed_spec =

@@ -6,12 +6,12 @@ use Rattle.auditing.proofs.AuditorLaws.{was_found}
 use Rattle.auditing.proofs.auditor.Auditor.goes_on.Statement.{statement}
 use Rattle.auditing.proofs.auditor.Auditor.goes_on.Tie as tie
 
-returns : tie.Need-returns
-returns c = sym (was_found _ c.match.keys2)
+returns : tie.Need-returns-in_default
+returns c = sym (was_found _ c.in_default.not-Accepted)
 
-returns-2 : tie.Need-returns-2
+returns-2 : tie.Need-returns
 unfolding goes_on
-returns-2 c = rw c.enum_told.given.1
+returns-2 c = rw c.in-Accepted.is
 
 pub goes_on_spec : {M : Type 1} → statement M
 goes_on_spec =

@@ -2,11 +2,11 @@
 use Prim.Native.Nat.{ℕ, ◌+◌, min}
 use native.Mathlib.Omega.{arith}
 use mathlib.Core.Path.{◌≡◌}
-use mathlib.Core.Logic.{⊎_elim}
 use borrow.Author.Rules.{rules}
 use Rattle.machine.specs.declared.machine.Machine.{Machine}
 use Rattle.auditing.specs.Auditor.{last_line, on_next_line}
 use Rattle.auditing.specs.declared.auditor.Auditor.{Auditor}
+use Rattle.auditing.proofs.auditor.Auditor.on_next_line.Lts.{then-line-lt-LAST_LINE, else-line-lt-LAST_LINE}
 use Rattle.auditing.proofs.auditor.Auditor.on_next_line.Statement.{statement}
 use Rattle.auditing.proofs.auditor.Auditor.on_next_line.Tie as tie
 
@@ -19,7 +19,9 @@ with_number a m n e = rw e
 returns : tie.Need-returns
 returns c =
     with_number _ _ _
-    (⊎_elim (λ w. omega (arith, w.0.taken, w.1)) (λ w. omega (arith, w.0.left, w.1)) c.before.if1.branch)
+    (elim c.if-line-lt-LAST_LINE.branch [ then-line-lt-LAST_LINE w ↦ omega arith | else-line-lt-LAST_LINE w ↦ omega arith ])
 
 pub on_next_line_spec : {M : Type 1} → statement M
-on_next_line_spec = tie.close (tie.spec (λ c. search rules) returns)
+on_next_line_spec = tie.close (tie.spec
+    (λ c. search rules)
+    returns)

@@ -6,7 +6,7 @@ use Rattle.auditing.proofs.auditor.Auditor.refused.Tie as tie
 
 returns : tie.Need-returns
 unfolding refused_auditor
-returns c = rw c.zero-machine.ensures
+returns c = rw c.zero_machine-machine.ensures
 
 pub refused_spec : {M : Type 1} → statement M
 refused_spec =

@@ -21,14 +21,13 @@ start-refused t cores number place =
     (λ e. rw e (λ told. clash cc))
     (λ n p e. rw e (λ told. let same_number : n ≡ number = cc in let same_place : p ≡ place = cc in rw (same_number, same_place)))
 
-returns : tie.Need-returns
+returns : tie.Need-returns-in-Refused
 returns c =
-    let o = c.before.before in
-    c.refused.ensures ∙ start-refused _ _ _ _ (ap (λ (a : Answer). a.outcome) (sym o.before.before.start.ensures.is) ∙ o.outcome.given.1)
+    c.refused.ensures ∙ start-refused _ _ _ _ (ap (λ (a : Answer). a.outcome) (sym c.start-started.ensures.is) ∙ c.in-Refused.is)
 
-returns-2 : tie.Need-returns-2
+returns-2 : tie.Need-returns
 unfolding started_auditor answer_after
-returns-2 c = rw (← c.before.before.before.start.ensures.is, c.before.enum_told.given.1)
+returns-2 c = rw (← c.start-started.ensures.is, c.in_default.is)
 
 pub start_spec : {M : Type 1} → statement M
 start_spec =

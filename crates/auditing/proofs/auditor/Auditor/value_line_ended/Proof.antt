@@ -8,32 +8,27 @@ use Rattle.auditing.proofs.AuditorLaws.{value_broken, value_offends, value_taken
 use Rattle.auditing.proofs.auditor.Auditor.value_line_ended.Statement.{statement}
 use Rattle.auditing.proofs.auditor.Auditor.value_line_ended.Tie as tie
 
-returns : tie.Need-returns
+returns : tie.Need-returns-in_default
 returns c =
-    let t = c.before in
-    c.Ended-by.ensures ∙ sym (value_broken _ _ (broken_means _ (sym t.before.before.read-line.ensures ∙ t.enum_told.given.1)))
+    c.ended_by.ensures ∙ sym (value_broken _ _ (broken_means _ (sym c.read_line.ensures ∙ c.in_default.is)))
 
 -- the line has the values that were read
-has-values : (c : tie.After-known-told) → HasValues c.before.before.before.before.before.args.line.now c.before.values.given.0.0
+has-values : (c : tie.In-Read) → HasValues c.args.line.now c.in-Read.values
 has-values c =
-    let v = c.before in
-    read_means _ _ (sym v.before.before.read-line.ensures ∙ v.values.given.1)
+    read_means _ _ (sym c.read_line.ensures ∙ c.in-Read.is)
 
-returns-2 : tie.Need-returns-2
+returns-2 : tie.Need-returns-then-not-taken
 returns-2 c =
-    let t = c.before.before.before in
-    let h = has-values t.before.before in
-    c.ended-by2.ensures
-    ∙ sym (value_offends _ _ h.is_line (rw h.values_are (was_false t.take-line.ensures.all_is c.before.if1.true)))
+    let h = has-values c.before.before.before.before.before in
+    c.ended_by-then-not-taken.ensures
+    ∙ sym (value_offends _ _ h.is_line (rw h.values_are (was_false c.take_line-taken.ensures.all_is c.if-not-taken.true)))
 
-returns-3 : tie.Need-returns-3
+returns-3 : tie.Need-returns
 returns-3 c =
-    let e = c.before.before in
-    let t = e.before.before in
-    let h = has-values t.before.before in
-    let taken = was_true t.take-line.ensures.all_is e.if1.false in
-    c.on-next-line.ensures
-    ∙ ap (on_next_line _) (t.take-line.ensures.machine_is taken)
+    let h = has-values c.before.before.before.before.before.before in
+    let taken = was_true c.take_line-taken.ensures.all_is c.if-not-taken.false in
+    c.on_next_line.ensures
+    ∙ ap (on_next_line _) (c.take_line-taken.ensures.machine_is taken)
     ∙ rw (← h.values_are) (sym (value_taken _ _ h.is_line (rw h.values_are taken)))
 
 pub value_line_ended_spec : {M : Type 1} → statement M
