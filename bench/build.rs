@@ -27,7 +27,7 @@ fn compile(name: &str, out: &Path) -> PathBuf {
 fn main() {
     let out = PathBuf::from(env::var("OUT_DIR").expect("cargo sets this"));
     let manifest = PathBuf::from(env::var("CARGO_MANIFEST_DIR").expect("cargo sets this"));
-    let host = manifest.join("../target/staticlib");
+    let host = manifest.join("../crates/host/out");
     let objects = [compile("table", &out), compile("admit", &out)];
     run(Command::new("ar")
         .arg("rcs")

@@ -13,7 +13,7 @@ const LINES: usize = 1_000_000;
 const FEW_LINES: usize = 10_000;
 
 // The programs, from the folder of this package.
-const PROVED: &str = "../target/bin/audit";
+const PROVED: &str = "../crates/audit/out/audit";
 const IN_C: &str = "target/audit";
 
 // A line that releases 32 tasks: the table lacks some of them, or the gap of some is above 0.

@@ -7,7 +7,7 @@ use std::process::{Command, Stdio};
 const ROUNDS: usize = 200;
 
 // The program, from the folder of this package, and the bytes that its script may have.
-const REPLAY: &str = "../target/bin/replay";
+const REPLAY: &str = "../crates/replay/out/replay";
 const ROOM: usize = 65_536;
 
 /// A table on a number of cores, and the task that is offered to it.

@@ -8,7 +8,7 @@ const ROUNDS: usize = 7;
 const SLOTS: f64 = 1e6;
 
 // The programs, from the folder of this package.
-const PROVED: &str = "../target/bin/bench_slots";
+const PROVED: &str = "../crates/bench_slots/out/bench_slots";
 const CHECKED: &str = "target/slots-checked";
 const UNCHECKED: &str = "target/slots-unchecked";
 

@@ -81,7 +81,7 @@ pub fn first_difference(expected: &str, actual: &str) -> String {
 /// The program that the variable names, or the built one. A relative path starts
 /// from the manifest's folder.
 pub fn path(variable: &str, name: &str) -> PathBuf {
-    let named = env::var(variable).unwrap_or_else(|_| format!("../target/bin/{name}"));
+    let named = env::var(variable).unwrap_or_else(|_| format!("../crates/{name}/out/{name}"));
     Path::new(env!("CARGO_MANIFEST_DIR")).join(named)
 }
 
