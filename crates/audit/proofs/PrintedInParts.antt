@@ -10,8 +10,7 @@ use lib.ListN.{length, length-append}
 use Rattle.laws.proofs.CaseSplits.{by_test}
 use Rattle.text.specs.Lines.{line_end, has, before, after}
 use Rattle.text.specs.Number.{number_after}
-use Rattle.text.specs.declared.number.Number.{Number}
-use Rattle.text.specs.declared.number.Number.TheVariants.{Read, Broken}
+use Rattle.std.proofs.Common.{Option, Some, None}
 use Rattle.text.proofs.Split.{here, has_append}
 use Rattle.text.proofs.Lengths.{after_short}
 use Rattle.text.proofs.Appended.{before_kept, after_kept, before_more}
@@ -25,7 +24,7 @@ use Rattle.audit.proofs.LineAfter.{line_after, parts_after, bad_after}
 use Rattle.audit.proofs.AfterCores.{enough_text, cores_after}
 
 -- the number of a first line
-abbrev cores_on : List ℕ → Number
+abbrev cores_on : List ℕ → Option ℕ
 cores_on line = number_after max_digits max_number cores_word line
 
 module _ (first rest : List ℕ) (full : (part_room ≤ length first) ⊎ (rest ≡ [])) where
@@ -36,15 +35,15 @@ module _ (first rest : List ℕ) (full : (part_room ≤ length first) ⊎ (rest 
         omega (arith, ap length (here line_end first ended).whole, length-append (before line_end first) (line_end ∷ after line_end first))
 
     by_number :
-        (number : Number) → cores_on (before line_end first) ≡ number
+        (number : Option ℕ) → cores_on (before line_end first) ≡ number
         → line_after (opened_after_first number (after line_end first)) rest ≡ printed_after_first number (after line_end first ++ rest)
     unfolding opened_after_first printed_after_first
-    by_number (Read cores) e =
+    by_number (Some cores) e =
         let text = after line_end first in
         let short = after_short max_digits max_number cores_word (before line_end first) cores e in
         let enough : (enough_text ≤ length text) ⊎ (rest ≡ []) = ⊎_elim (λ h. inl (omega (arith, bytes))) inr full in
         cores_after text rest cores (omega (arith, bytes, length-append first rest, length-append text rest)) enough
-    by_number Broken e = bad_after rest 1 (omega arith)
+    by_number None e = bad_after rest 1
 
     first_ended : line_after (opened first) rest ≡ printed (first ++ rest)
     unfolding opened printed
@@ -55,14 +54,14 @@ module _ (first rest : List ℕ) (full : (part_room ≤ length first) ⊎ (rest 
   -- it does not: then it is not ended at all, or it is too long to be `CORES m`
   module _ (open-end : has line_end first ≡ false) where
     long_number :
-        part_room ≤ length first → (number : Number) → cores_on (before line_end (first ++ rest)) ≡ number
+        part_room ≤ length first → (number : Option ℕ) → cores_on (before line_end (first ++ rest)) ≡ number
         → printed_after_first number (after line_end (first ++ rest)) ≡ bad_line 1
     unfolding printed_after_first
-    long_number h (Read cores) e =
+    long_number h (Some cores) e =
         let short = after_short max_digits max_number cores_word (before line_end (first ++ rest)) cores e in
         let line : length (before line_end (first ++ rest)) ≡ length (first ++ before line_end rest) = ap length (before_more line_end first rest open-end) in
         absurd (omega (arith, length-append first (before line_end rest)))
-    long_number h Broken e = refl
+    long_number h None e = refl
 
     long_line : part_room ≤ length first → printed (first ++ rest) ≡ bad_line 1
     unfolding printed
@@ -77,7 +76,7 @@ module _ (first rest : List ℕ) (full : (part_room ≤ length first) ⊎ (rest 
 
     first_open : line_after (opened first) rest ≡ printed (first ++ rest)
     unfolding opened
-    first_open = rw open-end (bad_after rest 1 (omega arith) ∙ sym (⊎_elim long_line only_line full))
+    first_open = rw open-end (bad_after rest 1 ∙ sym (⊎_elim long_line only_line full))
 
   opened_after : length (first ++ rest) < 2 ^ 64 → line_after (opened first) rest ≡ printed (first ++ rest)
   opened_after small = by_test (has line_end first) (λ t. first_ended t small) first_open

@@ -1,16 +1,15 @@
 // Audits the log of another dispatcher on standard input: prints whether it is accepted, its first offending line, or a refusal.
 #![tactic(auto)]
 
-use crate::opening::{Opening, open};
-use auditing::auditor::Audit;
+use crate::opening::{Opening, feed, is_decided, open};
+use auditing::auditor::{Audit, LogRefusal};
 use script::output::put_bad_line;
-use text::output::{put, put_numbers};
+use text::output::Output;
 
 mod opening;
 
-ghost use Rattle.std.specs.Prelude.{◌≤◌, length};
 ghost use Rattle.text.specs.Output.{Holds};
-ghost use Rattle.script.specs.Output.{PutWithin};
+ghost use Rattle.script.specs.Output.{PutsWithin};
 ghost use Rattle.auditing.specs.Audit.{audit_values_of};
 ghost use Rattle.audit.specs.Printed.{audit_line};
 ghost use Rattle.audit.specs.Opening.{opening_line, printed_room};
@@ -22,61 +21,52 @@ const PART_ROOM: usize = 65_536;
 const PRINTED_ROOM: usize = 40;
 
 // The most parts that are read.
-const MAX_PARTS: u64 = 18_446_744_073_709_551_615;
+const MAX_PARTS: u64 = u64::MAX;
+
+// What the program prints.
+type Printed = Output<PRINTED_ROOM>;
 
 // Puts the line of an audit.
-fn put_audit(output: &mut [u8], used: usize, audit: Audit) -> usize
-    ensures { PutWithin printed_room output.old used (audit_line (audit_values_of audit)) output.new result }
+fn put_audit(output: &mut Printed, audit: Result<Audit, LogRefusal>)
+    ensures { PutsWithin printed_room output.old (audit_line (audit_values_of audit)) output.new }
 {
     match audit {
-        Audit::Accepted => put(output, used, b"ACCEPTED\n"),
-        Audit::Offends(line) => {
-            let at = put(output, used, b"OFFENDS ");
-            let numbers = [line];
-            put_numbers(output, at, &numbers)
+        Ok(Audit::Accepted) => output.put(b"ACCEPTED\n"),
+        Ok(Audit::Offends(line)) => {
+            output.put(b"OFFENDS ");
+            output.put_numbers(&[line]);
         }
-        Audit::Refused { number, place } => {
-            let at = put(output, used, b"REFUSED ");
-            let numbers = [number as u64, place];
-            put_numbers(output, at, &numbers)
+        Err(refusal) => {
+            output.put(b"REFUSED ");
+            output.put_numbers(&[refusal.reason.number() as u64, refusal.place]);
         }
     }
 }
 
-// Puts what is printed at the start of the output: how many bytes it is.
-fn put_line(output: &mut [u8], opening: Opening) -> usize
-    requires { printed_room ≤ length output.old }
-    ensures { Holds (opening_line opening) output.new result }
+// What is printed for an input that ends here.
+fn printed_line(opening: Opening) -> Printed
+    ensures { Holds (opening_line opening) result }
 {
-    if 0 < opening.bad {
-        return put_bad_line(output, 0, opening.bad);
+    let mut output = Output::new();
+    match opening {
+        Ok(auditor) => put_audit(&mut output, auditor.conclude()),
+        Err(line) => put_bad_line(&mut output, line),
     }
-    let auditor = opening.auditor;
-    put_audit(output, 0, auditor.conclude())
+    output
 }
 
 // Reads the input part by part, as long as it is not decided, and writes what is printed for it.
-fn print(rt: &HostRuntime, space: [u8; PART_ROOM], room: [u8; PRINTED_ROOM]) {
-    let mut input = space;
-    let mut output = room;
-    let mut n = stdio::read_input(rt, &mut input);
-    let mut opening = open(&input[..n]);
-    let mut left = MAX_PARTS;
-    while 0 < left {
-        if n < PART_ROOM {
-            break;
-        }
-        if opening.is_decided() {
-            break;
-        }
-        n = stdio::read_input(rt, &mut input);
-        opening = opening.feed(&input[..n]);
-        left -= 1;
-    }
-    let used = put_line(&mut output, opening);
-    stdio::write_output(rt, &output, used);
-}
-
 fn main(rt: HostRuntime) {
-    print(&rt, [0; PART_ROOM], [0; PRINTED_ROOM]);
+    let mut input = [0u8; PART_ROOM];
+    let mut n = stdio::read_input(&rt, &mut input);
+    let mut opening = open(&input[..n]);
+    for _ in 0..MAX_PARTS {
+        if n < PART_ROOM || is_decided(opening) {
+            break;
+        }
+        n = stdio::read_input(&rt, &mut input);
+        opening = feed(opening, &input[..n]);
+    }
+    let output = printed_line(opening);
+    stdio::write_output(&rt, output.text());
 }

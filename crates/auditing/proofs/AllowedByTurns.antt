@@ -1,18 +1,14 @@
 -- The rules for a slot's runners as the code tries them on a sound machine: by their number, by the last turn of a runner and the first of an idle task
--- (`last_to` and `first_to`), and by the flags past the count. Others cite `Seen`, what was seen so far, with `seen_none`, `seen_ran` and `seen_idle`;
--- `open_by_turn`, that a job is open by its turn; `wrong_number`, `closed_ran` and `one_beaten`, each of which refuses the choice,
--- and `legal_else`, that without these only the flags past the count are left to decide.
-use Prim.Native.Nat.{ℕ, zero, suc, ◌+◌, ◌-◌, min, max, ◌≤◌, ◌<◌}
-use native.Mathlib.Numerals.{add-one}
+-- (`last_to` and `first_to`), and by the flags past the count. Others cite `open_by_turn`, that a job is open by its turn, and `legal_by_turns`, that the
+-- choice is legal exactly where these tests pass.
+use Prim.Native.Nat.{ℕ, zero, suc, ◌+◌, ◌-◌, min, ◌≤◌, ◌<◌}
 use native.Mathlib.Omega.{arith}
 use mathlib.Core.Path.{◌≡◌, refl, sym, ◌∙◌}
-use mathlib.Core.Bool.{Bool, true, false, cond, not}
+use mathlib.Core.Bool.{Bool, true, false, not, ◌&&◌}
 use mathlib.Core.List.{List}
-use borrow.Author.Tests.{ltb-false, lt-ltb, le-ltb, not-true}
-use lib.Dec.{ltb}
+use borrow.Author.Tests.{eqb-true, eq-eqb, ne_eqb, false-eqb, ltb-false, lt-ltb, le-ltb, leb-true, le-leb, not-true}
+use lib.Dec.{eqb, leb, ltb}
 use lib.ListN.{get_or}
-use Rattle.laws.specs.Sums.{sum_to, bit}
-use Rattle.laws.proofs.SumLaws.{bit_true, bit_false}
 use Rattle.laws.proofs.CaseSplits.{by_equal, by_order, by_test, not_both}
 use Rattle.laws.proofs.Booleans.{and_left, and_right, both_ways}
 use Rattle.tasks.specs.Limits.{max_tasks}
@@ -24,49 +20,11 @@ use Rattle.machine.specs.Sound.{sound}
 use Rattle.machine.specs.declared.machine.Machine.{Machine}
 use Rattle.machine.proofs.SoundLaws.{sound_passes, sound_small}
 use Rattle.auditing.specs.Line.{legal_run}
-use Rattle.auditing.specs.Turn.{later, never, turn, none_from, none_past}
+use Rattle.auditing.specs.Turn.{later, never, turn, last_to, first_to, turns_to, in_order, none_from, none_past}
 use Rattle.auditing.proofs.TurnLaws.{turn_closed, open_turn, turn_beats}
 use Rattle.auditing.proofs.AllowedRun.{Legal, legal_means, legal_run_lem}
 
--- the last turn of a runner among the first n tasks, 0 where none ran, and the first turn of a task that did not, `never` where all did
-unfoldable pub last_to : Machine → (ran : List Bool) → (n : ℕ) → ℕ
-last_to m ran zero = 0
-last_to m ran (suc n) = cond (get_or ran n false) (max (last_to m ran n) (turn (job_at m n))) (last_to m ran n)
-
-unfoldable pub first_to : Machine → (ran : List Bool) → (n : ℕ) → ℕ
-first_to m ran zero = never
-first_to m ran (suc n) = cond (get_or ran n false) (first_to m ran n) (min (first_to m ran n) (turn (job_at m n)))
-
 module _ (m : Machine) (ran : List Bool) where
-  -- what the code has seen of the first i tasks
-  pub record Seen (runners last first i : ℕ) : Type 0 where
-    pub number_is : runners ≡ sum_to i (λ k. bit (get_or ran k false))
-    pub last_is_lem : last ≡ last_to m ran i
-    pub first_is_lem : first ≡ first_to m ran i
-
-  pub seen_none : Seen 0 0 never 0
-  unfolding sum_to last_to first_to
-  seen_none = record { number_is = refl; last_is_lem = refl; first_is_lem = refl }
-
-  module _ {runners last first i : ℕ} (seen : Seen runners last first i) where
-    pub seen_ran : get_or ran i false ≡ true → (n l : ℕ) → n ≡ runners + 1 → l ≡ max last (turn (job_at m i)) → Seen n l first (i + 1)
-    unfolding sum_to last_to first_to
-    seen_ran r n l more later-is =
-        record {
-          number_is = rw (add-one i) (omega (arith, more, seen.number_is, bit_true (get_or ran i false) r));
-          last_is_lem = rw (add-one i, r, ← seen.last_is_lem) later-is;
-          first_is_lem = rw (add-one i, r) seen.first_is_lem;
-        }
-
-    pub seen_idle : get_or ran i false ≡ false → (f : ℕ) → f ≡ min first (turn (job_at m i)) → Seen runners last f (i + 1)
-    unfolding sum_to last_to first_to
-    seen_idle r f earlier-is =
-        record {
-          number_is = rw (add-one i) (omega (arith, seen.number_is, bit_false (get_or ran i false) r));
-          last_is_lem = rw (add-one i, r) seen.last_is_lem;
-          first_is_lem = rw (add-one i, r, ← seen.first_is_lem) earlier-is;
-        }
-
   last_least : (b n : ℕ) → ((i : ℕ) → i < n → get_or ran i false ≡ true → turn (job_at m i) ≤ b) → last_to m ran n ≤ b
   unfolding last_to
   last_least b zero each = omega arith
@@ -163,8 +121,8 @@ module _ (m : Machine) (ran : List Bool) (ok : sound m ≡ true) where
         (λ ox. ltb-false (turn (job_at m x)) (turn (job_at m y)) (sym (beats_by_turn x y hx hy ox oy) ∙ legal.not_beaten x y hx hy ox idle r))
         (λ cx. omega (arith, turn_closed (job_at m x) cx, turn_most m ok y hy))
 
-    in_order : last_to m ran n ≤ first_to m ran n
-    in_order =
+    in_order_lem : last_to m ran n ≤ first_to m ran n
+    in_order_lem =
         last_least m ran (first_to m ran n) n
         (λ y hy r. first_greatest m ran (turn (job_at m y)) n (turn_most m ok y hy) (λ x hx idle. turn_before y hy r x hx idle))
 
@@ -204,25 +162,27 @@ module _ (m : Machine) (ran : List Bool) (ok : sound m ≡ true) where
                 ∙ le-ltb (turn (job_at m x)) (turn (job_at m y)) (omega (arith, last_bounds m ran n y hy r, first_bounds m ran n x hx idle));
           }
 
-  -- what refuses the choice
-  refuted : (Legal m ran → ⊥) → legal_run m ran ≡ false
-  refuted no_way = by_test (legal_run m ran) (λ e. absurd (no_way (legal_means m ran e))) (λ e. e)
-
-  pub wrong_number : (ran_count m ran ≡ min m.cores (open_count m) → ⊥) → legal_run m ran ≡ false
-  wrong_number ne = refuted (λ legal. ne legal.number)
-
-  pub closed_ran : last_to m ran n ≡ never → legal_run m ran ≡ false
-  closed_ran e = refuted (λ legal. omega (arith, all_early legal))
-
-  pub one_beaten : first_to m ran n < last_to m ran n → legal_run m ran ≡ false
-  one_beaten h = refuted (λ legal. omega (arith, in_order legal))
-
-  pub legal_else :
-      ran_count m ran ≡ min m.cores (open_count m) → (last_to m ran n ≡ never → ⊥) → last_to m ran n ≤ first_to m ran n
-      → legal_run m ran ≡ none_past ran n
-  legal_else number early order =
+  -- the rules are the tests of the code
+  pub legal_by_turns : legal_run m ran ≡ (in_order (turns_to m ran n) m.cores && none_past ran n)
+  unfolding in_order turns_to ran_count open_count
+  legal_by_turns =
+      let count = ran_count m ran in
+      let wanted = min m.cores (open_count m) in
+      let last = last_to m ran n in
+      let first = first_to m ran n in
+      both_ways (legal_run m ran) (eqb count wanted && not (eqb last never) && leb last first && none_past ran n)
+      (λ e.
+      let legal = legal_means m ran e in
+      let early = all_early legal in
+      rw (eq-eqb count wanted legal.number, ne_eqb last never (λ h. omega arith), le-leb last first (in_order_lem legal)) (none_past_lem legal))
+      (λ e.
+      let tests = and_left (eqb count wanted && not (eqb last never) && leb last first) _ e in
+      let number_and_last = and_left (eqb count wanted && not (eqb last never)) _ tests in
       let most = last_least m ran never n (λ i h r. turn_most m ok i h) in
-      let below : last_to m ran n < never = by_equal (last_to m ran n) never (λ e. absurd (early e)) (λ ne. omega arith) in
-      both_ways (legal_run m ran) (none_past ran n)
-      (λ e. none_past_lem (legal_means m ran e))
-      (λ none. legal_run_lem m ran (by_turns number below order none))
+      let early = false-eqb last never (sym (not-true (eqb last never) (and_right (eqb count wanted) _ number_and_last))) in
+      legal_run_lem m ran
+      (by_turns
+      (eqb-true count wanted (and_left (eqb count wanted) _ number_and_last))
+      (omega arith)
+      (leb-true last first (and_right (eqb count wanted && not (eqb last never)) _ tests))
+      (and_right (eqb count wanted && not (eqb last never) && leb last first) _ e)))

@@ -1,7 +1,7 @@
-pub mod LineReadLaws
 pub mod TurnLaws
 pub mod AllowedRun
 pub mod AllowedByTurns
+pub mod TurnsSeen
 pub mod TheoryChoice
 pub mod CallsLeft
 pub mod CallsAppended

@@ -142,7 +142,7 @@ pub release_opened :
 unfolding is_done
 release_opened m number need done =
     by_kind m (λ call answer. is_done answer.outcome ≡ true → call ≡ Release number need → Opened m answer.machine number need)
-    (λ call n place told d e. not_both false d refl)
+    (λ call why told d e. not_both false d refl)
     (λ call m' silent d. silent.opened number need)
     (λ k ran assigned taken d e. clash cc)
     (Release number need)
@@ -158,7 +158,7 @@ pub finish_closed : (m : Machine) (number : ℕ) → is_done (step m (Finish num
 unfolding is_done
 finish_closed m number done =
     by_call m (λ call answer. is_done answer.outcome ≡ true → call ≡ Finish number → Closed m answer.machine number)
-    (λ call n place told d e. not_both false d refl)
+    (λ call why told d e. not_both false d refl)
     (λ n need taken d e. clash cc)
     (λ n taken d e. let same : n ≡ number = cc in rw (← same) (record { taken = taken; after = refl }))
     (λ k ran assigned taken d e. clash cc)

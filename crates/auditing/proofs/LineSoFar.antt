@@ -5,6 +5,7 @@ use Prim.Native.Nat.{ℕ, suc, ◌+◌, ◌≤◌, ◌<◌, min}
 use native.Mathlib.Numerals.{add-one}
 use native.Mathlib.Omega.{arith}
 use mathlib.Core.Path.{◌≡◌, refl, sym, ◌∙◌}
+use Rattle.std.proofs.Common.{Ok}
 use mathlib.Core.Bool.{false}
 use mathlib.Core.List.{List, [], ◌∷◌, ◌++◌}
 use borrow.Author.Tests.{ne_eqb}
@@ -17,11 +18,11 @@ use Rattle.machine.specs.declared.machine.Machine.{Machine}
 use Rattle.auditing.specs.Auditor.{line_room, last_line, kept_line, on_next_line, with_line, fed_byte}
 use Rattle.auditing.specs.declared.auditor.Audit.TheVariants.{Accepted}
 use Rattle.auditing.specs.declared.auditor.Auditor.{Auditor}
-use Rattle.auditing.proofs.AuditorLaws.{byte_ends, byte_kept, byte_dropped}
+use Rattle.auditing.proofs.AuditorLaws.{still_on, byte_ends, byte_kept, byte_dropped}
 use Rattle.auditing.proofs.CutLine.{with_line_cut}
 
 pub record Reads (m : Machine) (n : ℕ) (x : List ℕ) (a : Auditor) : Type 0 where
-  pub on : a.answer ≡ Accepted
+  pub on : a.answer ≡ Ok Accepted
   pub machine_is : a.machine ≡ m
   pub number_is : a.line ≡ n
   -- the line is not ended
@@ -45,7 +46,7 @@ module _ (m : Machine) (n : ℕ) (x : List ℕ) (a : Auditor) (r : Reads m n x a
         let all_more : take line_room (x ++ b ∷ []) ≡ x ++ b ∷ [] = take_all line_room (x ++ b ∷ []) (omega (arith, length-append x (b ∷ []))) in
         let front : take (a.used + 1) (set a.kept a.used b) ≡ take a.used a.kept ++ b ∷ [] =
         rw (add-one a.used) (take-suc-set a.kept a.used b inside-kept) in
-        rw (byte_kept a r.on b other h)
+        rw (byte_kept a (still_on a r.on) b other h)
         (record {
           on = r.on;
           machine_is = r.machine_is;
@@ -59,7 +60,7 @@ module _ (m : Machine) (n : ℕ) (x : List ℕ) (a : Auditor) (r : Reads m n x a
     full_more : line_room ≤ a.used → Reads m n (x ++ b ∷ []) (fed_byte a b)
     full_more h =
         let full : line_room ≤ length x = omega (arith, r.count) in
-        rw (byte_dropped a r.on b other h)
+        rw (byte_dropped a (still_on a r.on) b other h)
         (record {
           on = r.on;
           machine_is = r.machine_is;
@@ -80,7 +81,7 @@ module _ (m : Machine) (n : ℕ) (x : List ℕ) (a : Auditor) (r : Reads m n x a
 
   -- byte 10: the line is judged as if all of it had been kept
   pub reads_end : (b : ℕ) → b ≡ line_end → fed_byte a b ≡ with_line a x
-  reads_end b e = rw (byte_ends a r.on b e, kept_is) (with_line_cut a x)
+  reads_end b e = rw (byte_ends a (still_on a r.on) b e, kept_is) (with_line_cut a x)
 
   -- the next line begins
   pub reads_next : n < last_line → (m' : Machine) → Reads m' (suc n) [] (on_next_line a m')

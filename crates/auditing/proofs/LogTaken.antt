@@ -1,5 +1,6 @@
 -- The lines of an accepted log, one after the other. Others cite: `lines_taken`, that each is taken, with `first_taken` and `rest_taken`; and `Reached`, of
 -- the machine before some lines, which holds at the start (`reached_first`) and after any of the lines (`reached_after`).
+use Rattle.std.proofs.Common.{Ok}
 use Prim.Native.Nat.{ℕ, suc}
 use mathlib.Core.Path.{◌≡◌, refl, ap, ◌∙◌}
 use mathlib.Core.Bool.{Bool, true, false, ◌&&◌}
@@ -8,9 +9,9 @@ use Rattle.laws.proofs.CaseSplits.{by_test, not_both}
 use Rattle.laws.proofs.Booleans.{and_left, and_right}
 use Rattle.text.specs.Lines.{line_end, after, first_is, lines, unended}
 use Rattle.tasks.specs.declared.table.Table.{Table}
-use Rattle.tasks.specs.declared.outcome.Outcome.TheVariants as Out
 use Rattle.judge.specs.SlackJudge.{admission}
 use Rattle.judge.proofs.Admitted.{admission_means}
+use Rattle.tasks.specs.declared.refusals.Reason.{Reason}
 use Rattle.machine.specs.Calls.{start}
 use Rattle.machine.specs.declared.machine.Machine.{Machine}
 use Rattle.machine.proofs.SoundKept.{start_outcome}
@@ -36,9 +37,9 @@ module _ (m : Machine) (line : LogLine) (ls : List LogLine) (all : lines_taken m
   unfolding lines_taken
   rest_taken = and_right (line_taken m line) _ all
 
-refused_not : {A : Type 0} (number place : ℕ) → refused_log number place ≡ accepted_log → A
+refused_not : {A : Type 0} (reason : Reason) (place : ℕ) → refused_log reason place ≡ accepted_log → A
 unfolding refused_log accepted_log
-refused_not number place e = not_both false (ap (λ (v : AuditValues). v.accepted) e) refl
+refused_not reason place e = not_both false (ap (λ (v : AuditValues). v.accepted) e) refl
 
 offending_not : {A : Type 0} (line : ℕ) → offending_log line ≡ accepted_log → A
 unfolding offending_log accepted_log
@@ -61,7 +62,7 @@ log_taken m s e =
     (λ bad. refused_not _ 0 (rw bad at e))
 
 audited_taken :
-    (t : Table) (cores : ℕ) (s : List ℕ) → (start t cores).outcome ≡ Out.Done → audited t cores s ≡ accepted_log
+    (t : Table) (cores : ℕ) (s : List ℕ) → (start t cores).outcome ≡ Ok tt → audited t cores s ≡ accepted_log
     → lines_taken (start t cores).machine (log_lines s) ≡ true
 unfolding audited audited_after
 audited_taken t cores s starts e = log_taken (start t cores).machine s (rw starts at e)

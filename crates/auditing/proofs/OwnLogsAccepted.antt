@@ -1,5 +1,6 @@
 -- The logs of our own machine, from a fresh one on whole budgets with k = m and no commit, are accepted: `own_logs_accepted`. The machine of the log and that
 -- of the audit are played side by side (Beside.antt), call by call.
+use Rattle.std.proofs.Common.{Ok, Err, Some}
 use Prim.Native.Nat.{ℕ, ◌-◌, ◌<◌}
 use mathlib.Core.Path.{◌≡◌, refl, sym, ap, ◌∙◌, subst}
 use mathlib.Core.Bool.{Bool, true, false}
@@ -12,7 +13,6 @@ use Rattle.laws.proofs.Booleans.{and_left, and_right}
 use Rattle.laws.proofs.Replaced.{replicate_entry}
 use Rattle.tasks.specs.declared.task.Task.{Task}
 use Rattle.tasks.specs.declared.table.Table.{Table}
-use Rattle.tasks.specs.declared.outcome.Outcome.TheVariants as Out
 use Rattle.tasks.specs.Limits.{max_tasks}
 use Rattle.tasks.specs.Check.{checked}
 use Rattle.tasks.specs.Outcome.{is_done}
@@ -20,16 +20,17 @@ use Rattle.job.specs.Job.{fresh_job, closed_job}
 use Rattle.machine.specs.Machine.{job_at, with_job, holding}
 use Rattle.machine.specs.Slot.{no_report, slot_report}
 use Rattle.machine.specs.Sound.{sound}
+use Rattle.tasks.specs.declared.refusals.Refusal.{Refusal}
+use Rattle.tasks.proofs.OutcomeLaws.{Not0}
 use Rattle.machine.specs.Calls.{done, refuse, start_after, start, slot_cores_in_range, slot, with_joined, step}
 use Rattle.machine.specs.Play.{Entry, play}
-use Rattle.machine.specs.declared.held.Held.TheVariants.{Offered}
 use Rattle.machine.specs.declared.machine.Machine.{Machine}
 use Rattle.machine.specs.declared.call.Call.{Call}
 use Rattle.machine.specs.declared.call.Call.TheVariants.{Release, Finish, Slot, Offer, Commit}
 use Rattle.machine.specs.declared.answer.Answer.{Answer}
 use Rattle.machine.proofs.RunnersPlaced.{runners_inside}
-use Rattle.machine.proofs.CallCases.{Refusal, ReleaseTaken, FinishTaken, SlotTaken, OfferTaken, CommitTaken}
-use Rattle.machine.proofs.CallCases.{refusal, accepted, slot_answer, after_release, after_finish, by_call}
+use Rattle.machine.proofs.CallCases.{ReleaseTaken, FinishTaken, SlotTaken, OfferTaken, CommitTaken}
+use Rattle.machine.proofs.CallCases.{refused, accepted, slot_answer, after_release, after_finish, by_call}
 use Rattle.machine.proofs.SoundKept.{call_keeps, start_outcome, start_sound}
 use Rattle.auditing.specs.Audit.{audited_after, audited}
 use Rattle.auditing.specs.OwnLog.{Since, nothing_since, since_call, line_by, own_lines, own_log, is_loggable, all_loggable, OwnLogsAccepted}
@@ -73,9 +74,9 @@ module _
     still_sound : (call : Call) (answer : Answer) → answer ≡ step r call → sound answer.machine ≡ true
     still_sound call answer is = rw is (call_keeps r b.real.is_sound call).is_sound
 
-    on_refusal : (call : Call) (number place : ℕ) → Refusal r number → Goal call (refusal r number place)
+    on_refusal : (call : Call) (why : Refusal) → (sound r ≡ true → Not0 (Err why)) → Goal call (refused r why)
     unfolding all_loggable own_lines is_done
-    on_refusal call number place told is loggable = next r a s b loggable
+    on_refusal call why told is loggable = next r a s b loggable
 
     -- an accepted release, on the whole budget, and an accepted finish set one job
     release_sets :
@@ -129,10 +130,10 @@ module _
         one_line (line_small t cores r a s b ran assigned by-cores inside) (line_taken_lem t cores r a s b ran assigned by-cores inside)
         (next _ _ _ (beside_slot t cores r a s b ran assigned by-cores inside (still_sound (Slot k) _ is)) (and_right on-cores _ loggable))
 
-    on_offer : (task : Task) → OfferTaken r task → Goal (Offer task) (accepted (holding r (Offered task)) no_report)
+    on_offer : (task : Task) → OfferTaken r task → Goal (Offer task) (accepted (holding r (Some task)) no_report)
     unfolding all_loggable is_loggable own_lines line_by since_call is_done holding job_at
     on_offer task taken is loggable =
-        let held = holding r (Offered task) in
+        let held = holding r (Some task) in
         let ok : sound held ≡ true = still_sound (Offer task) (accepted held no_report) is in
         next held a s (beside_offer t cores r held a s b (running_with t cores r b.real held ok refl refl refl) (λ i. refl)) loggable
 
@@ -151,11 +152,11 @@ module _ (t : Table) (cores : ℕ) where
   all_accepted [] r a s b loggable = no_line
   all_accepted (call ∷ calls) r a s b loggable = one_call t cores r a s b calls (all_accepted calls) call refl loggable
 
-  module _ (starts : (start t cores).outcome ≡ Out.Done) where
+  module _ (starts : (start t cores).outcome ≡ Ok tt) where
     start_running : Running t cores (start t cores).machine
     unfolding start start_after done
     start_running =
-        let checks : checked t cores ≡ Out.Done = sym (start_outcome t cores) ∙ starts in
+        let checks : checked t cores ≡ Ok tt = sym (start_outcome t cores) ∙ starts in
         let on = start_sound t cores starts in
         record {
           is_sound = on.is_sound;

@@ -1,5 +1,6 @@
 -- An accepted slot of the machine that a log is of, and its line on the machine that audits the log: the line has values of 32 bits (`line_small`), is taken
 -- (`line_taken_lem`), and after it the two machines stand beside each other with nothing released or finished (`beside_slot`).
+use Rattle.std.proofs.Common.{Ok}
 use Prim.Native.Nat.{ℕ, ◌^◌, ◌≤◌, ◌<◌}
 use native.Mathlib.Omega.{arith}
 use mathlib.Core.Path.{◌≡◌, refl, sym, ap, ◌∙◌}
@@ -8,7 +9,6 @@ use mathlib.Core.List.{List, ◌++◌}
 use lib.ListN.{length, get_or}
 use Rattle.laws.proofs.Replaced.{length_replaced}
 use Rattle.tasks.specs.declared.table.Table.{Table}
-use Rattle.tasks.specs.declared.outcome.Outcome.TheVariants.{Done}
 use Rattle.tasks.specs.Limits.{max_tasks}
 use Rattle.tasks.specs.Outcome.{is_done}
 use Rattle.tasks.specs.Flags.{mask, flags_of}
@@ -110,7 +110,7 @@ module _
     unfolding line_taken is_done
     line_taken_lem =
         let all : all_taken a (line_calls a.table line) ≡ true = rw calls_are made.taken in
-        let runs : (running_of a line).outcome ≡ Done = rw running_is (slot_made t cores before made.running ran).accepted in
+        let runs : (running_of a line).outcome ≡ Ok tt = rw running_is (slot_made t cores before made.running ran).accepted in
         let goes : legal_run (before_running a line) (flags_of line.ran) ≡ true = rw (before_is, runners_are) legal in
         rw (all, runs, goes)
 

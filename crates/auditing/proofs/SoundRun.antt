@@ -1,6 +1,7 @@
 -- A machine that runs a table on some cores: sound, and with a record for each task. Others cite: `Running`, with `running_fits`, what holds of the table,
 -- `same_task`, `inside_own`, `inside_table` and `running_with`; `whole_job`, the job that a release on the whole budget makes; `Made`, what an accepted call
 -- that sets one job does, with `job_made`, `release_made` and `finish_made`; and `slot_made` and `assigned_job`, of a slot.
+use Rattle.std.proofs.Common.{Ok}
 use Prim.Native.Nat.{ℕ, suc, ◌-◌, ◌<◌}
 use native.Mathlib.Omega.{arith}
 use mathlib.Core.Path.{◌≡◌, refl, ap, ◌∙◌}
@@ -11,7 +12,6 @@ use borrow.Author.Tests.{le-leb}
 use Rattle.laws.proofs.Replaced.{length_replaced}
 use Rattle.tasks.specs.declared.task.Task.{Task}
 use Rattle.tasks.specs.declared.table.Table.{Table}
-use Rattle.tasks.specs.declared.outcome.Outcome.TheVariants.{Done}
 use Rattle.tasks.specs.Limits.{max_tasks}
 use Rattle.tasks.specs.Table.{zero_task}
 use Rattle.tasks.proofs.Checked.{Passes}
@@ -48,7 +48,7 @@ whole_job t i = released_job (task_of t i) (task_of t i).budget
 
 -- a call is taken and makes j of the job at index i
 pub record Made (t : Table) (cores : ℕ) (m : Machine) (i : ℕ) (j : Job) (answer : Answer) : Type 0 where
-  pub accepted : answer.outcome ≡ Done
+  pub accepted : answer.outcome ≡ Ok tt
   pub running : Running t cores answer.machine
   pub here : job_at answer.machine i ≡ j
   pub others : (k : ℕ) → (k ≡ i → ⊥) → job_at answer.machine k ≡ job_at m k
@@ -117,7 +117,7 @@ module _ (t : Table) (cores : ℕ) (m : Machine) (r : Running t cores m) where
 
 -- a slot with given runners is taken, and what it does to each job
 pub record SlotMade (t : Table) (cores : ℕ) (m : Machine) (ran : List Bool) : Type 0 where
-  pub accepted : (slot_with m ran).outcome ≡ Done
+  pub accepted : (slot_with m ran).outcome ≡ Ok tt
   pub running : Running t cores (slot_with m ran).machine
   pub jobs : (i : ℕ) → i < t.count → job_at (slot_with m ran).machine i ≡ settled (passed m ran i)
 

@@ -1,10 +1,9 @@
 -- Logs of our own machine in this form: document 02, change 11, "Logs of our own machine in this form, from a fresh one on whole budgets with k = m and no
 -- commit, are accepted".
-use Rattle.std.specs.Prelude.{ℕ, ◌-◌, ◌≡◌, List, [], ◌∷◌, ◌++◌, Bool, true, false, cond, not, ◌&&◌, ◌||◌, eqb, get_or, set, replicate}
+use Rattle.std.specs.Prelude.{ℕ, ◌-◌, ◌≡◌, List, [], ◌∷◌, ◌++◌, Bool, true, false, cond, not, ◌&&◌, ◌||◌, eqb, get_or, set, replicate, Ok}
 use Rattle.text.specs.Lines.{line_end}
 use Rattle.text.specs.Output.{numbers_line}
 use Rattle.tasks.specs.declared.table.Table.{Table}
-use Rattle.tasks.specs.declared.outcome.Outcome.TheVariants as Out
 use Rattle.tasks.specs.Limits.{max_tasks}
 use Rattle.tasks.specs.Table.{zero_task}
 use Rattle.tasks.specs.Outcome.{is_done}
@@ -80,6 +79,6 @@ all_loggable t cores (e ∷ log) = (not (is_done e.outcome) || is_loggable t cor
 -- our own logs are accepted, of every table that starts, admitted or not
 unfoldable pub OwnLogsAccepted : Type 0
 OwnLogsAccepted =
-    (t : Table) (cores : ℕ) → (start t cores).outcome ≡ Out.Done
+    (t : Table) (cores : ℕ) → (start t cores).outcome ≡ Ok tt
     → (calls : List Call) → all_loggable t cores (play (start t cores).machine calls) ≡ true
     → audited t cores (own_log (play (start t cores).machine calls)) ≡ accepted_log

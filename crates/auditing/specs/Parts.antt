@@ -1,25 +1,25 @@
 -- The contracts of the auditor's own functions. `audited` does not rest on these.
-use Rattle.std.specs.Prelude.{◌≡◌, List, true, cond, ℕ}
+use Rattle.std.specs.Prelude.{◌≡◌, ◌<◌, List, cond, ℕ, Option, Some, None}
+use Rattle.tasks.specs.Limits.{max_tasks}
 use Rattle.machine.specs.declared.machine.Machine.{Machine}
 use Rattle.machine.specs.declared.call.Call.{Call}
 use Rattle.machine.specs.Play.{machine_after}
 use Rattle.auditing.specs.Log.{is_value_line, values_of}
 use Rattle.auditing.specs.Line.{all_taken, line_taken, after_line}
 use Rattle.auditing.specs.declared.line.LogLine.{LogLine}
-use Rattle.auditing.specs.declared.line.LineRead.{LineRead}
-use Rattle.auditing.specs.declared.line.LineRead.TheVariants.{Read, Broken}
-use Rattle.auditing.specs.declared.judging.Taken.{Taken}
 
--- the values of a line, or that it is broken
-unfoldable pub line_read : List ℕ → LineRead
-line_read l = cond (is_value_line l) (Read (values_of l)) Broken
+-- the values of a line, where it is not broken
+unfoldable pub line_read : List ℕ → Option LogLine
+line_read l = cond (is_value_line l) (Some (values_of l)) None
 
--- what making some calls on a machine answers: whether all were taken, and where they were the machine after them
-pub record TakesCalls (m : Machine) (calls : List Call) (r : Taken) : Type 0 where
-  pub all_is : r.all ≡ all_taken m calls
-  pub machine_is : all_taken m calls ≡ true → r.machine ≡ machine_after m calls
+-- what may come of a task's index, as `post` says, is no other call than the one that is made of it
+abbrev pub Makes : (post : ℕ → Call → Type 0) → (made : ℕ → Call) → Type 0
+Makes post made = (i : ℕ) (call : Call) → i < max_tasks → post i call → call ≡ made i
 
--- what judging a line on a machine answers: whether it is taken, and where it is the machine after it
-pub record TakesLine (m : Machine) (line : LogLine) (r : Taken) : Type 0 where
-  pub all_is : r.all ≡ line_taken m line
-  pub machine_is : line_taken m line ≡ true → r.machine ≡ after_line m line
+-- the machine after some calls, where all are taken
+unfoldable pub after_calls : Machine → List Call → Option Machine
+after_calls m calls = cond (all_taken m calls) (Some (machine_after m calls)) None
+
+-- the machine after a line, where it is taken
+unfoldable pub line_judged : Machine → LogLine → Option Machine
+line_judged m line = cond (line_taken m line) (Some (after_line m line)) None

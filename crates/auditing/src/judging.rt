@@ -1,106 +1,66 @@
 // One line of a log, judged on a machine.
+ghost use Rattle.std.specs.Prelude.{◌≡◌, ℕ, ◌<◌};
 ghost use Rattle.tasks.specs.Flags.{flags_of};
-ghost use Rattle.auditing.specs.Line.{release_at, finish_at, calls_from};
-ghost use Rattle.auditing.specs.Parts.{TakesCalls, TakesLine};
+ghost use Rattle.tasks.specs.Limits.{max_tasks};
+ghost use Rattle.machine.specs.declared.call.Call.{Call};
+ghost use Rattle.auditing.specs.Line.{calls_from};
+ghost use Rattle.auditing.specs.Parts.{Makes, after_calls, line_judged};
 
 use crate::line::LogLine;
 use crate::running::legal_run;
+use machine::call::Call;
 use machine::machine::Machine;
 use tasks::flags::flags_of;
-use tasks::outcome::Outcome;
 
-// Whether a machine took all that it was to take, and, where it did, the machine after it.
-#[derive(Clone, Copy)]
-pub(crate) struct Taken {
-    pub(crate) machine: Machine,
-    pub(crate) all: bool,
-}
-
-// The releases of the tasks that a value names, in rising number, each of the whole budget.
-fn take_releases(machine: Machine, released: u32) -> Taken
-    ensures { TakesCalls machine (calls_from (release_at machine.table) 0 (flags_of released)) result }
+// The machine after the calls of the tasks that a value names, in rising number, where it takes them all. A task's call is made from its index.
+fn take_calls<F: Fn(usize) -> Call>(machine: Machine, value: u32, call_of: F) -> Option<Machine>
+    requires callable { (i : ℕ) → i < max_tasks → F.pre call_of i }
+    ensures { (made : ℕ → Call) → Makes (F.post call_of) made → result ≡ after_calls machine (calls_from made 0 (flags_of value)) }
 {
     let mut after = machine;
-    let mut rest = released;
-    let mut i: usize = 0;
-    while 0 < rest {
-        if rest % 2 == 1 {
-            let table = after.table;
-            let task = table.tasks[i];
-            let answer = after.release(i as u32 + 1, task.budget);
-            let outcome = answer.outcome;
-            let Outcome::Done = outcome else {
-                return Taken {
-                    machine: after,
-                    all: false,
-                };
+    for (i, &named) in flags_of(value).iter().enumerate() {
+        if named {
+            let answer = after.step(call_of(i));
+            let Ok(()) = answer.outcome else {
+                return None;
             };
             after = answer.machine;
         }
-        rest /= 2;
-        i += 1;
     }
-    Taken {
-        machine: after,
-        all: true,
-    }
+    Some(after)
 }
 
-// The finishes of the tasks that a value names, in rising number.
-fn take_finishes(machine: Machine, finished: u32) -> Taken
-    ensures { TakesCalls machine (calls_from finish_at 0 (flags_of finished)) result }
+// The machine after a line, where it takes the line's releases, each of the whole budget, its finishes, and then its running, which has to go by the rules.
+pub(crate) fn take_line(machine: Machine, line: LogLine) -> Option<Machine>
+    ensures { result ≡ line_judged machine line }
 {
-    let mut after = machine;
-    let mut rest = finished;
-    let mut i: usize = 0;
-    while 0 < rest {
-        if rest % 2 == 1 {
-            let answer = after.finish(i as u32 + 1);
-            let outcome = answer.outcome;
-            let Outcome::Done = outcome else {
-                return Taken {
-                    machine: after,
-                    all: false,
-                };
-            };
-            after = answer.machine;
-        }
-        rest /= 2;
-        i += 1;
-    }
-    Taken {
-        machine: after,
-        all: true,
-    }
-}
-
-// A line: its releases, its finishes, and then its running, which has to go by the rules.
-pub(crate) fn take_line(machine: Machine, line: LogLine) -> Taken
-    ensures { TakesLine machine line result }
-{
-    let released = take_releases(machine, line.released);
-    if !released.all {
-        return released;
-    }
-    let open = released.machine;
-    let finished = take_finishes(open, line.finished);
-    if !finished.all {
-        return finished;
-    }
-    let before = finished.machine;
+    let table = machine.table;
+    let open = take_calls(
+        machine,
+        line.released,
+        |i|
+            requires { i < max_tasks }
+        {
+            Call::Release {
+                number: i as u32 + 1,
+                need: table.tasks[i].budget,
+            }
+        },
+    )?;
+    let before = take_calls(
+        open,
+        line.finished,
+        |i|
+            requires { i < max_tasks }
+        { Call::Finish(i as u32 + 1) },
+    )?;
     let ran = flags_of(line.ran);
     let answer = before.slot_with(ran);
-    let outcome = answer.outcome;
-    let Outcome::Done = outcome else {
-        return Taken {
-            machine: before,
-            all: false,
-        };
+    let Ok(()) = answer.outcome else {
+        return None;
     };
-    let after = answer.machine;
-    let legal = legal_run(before, ran);
-    Taken {
-        machine: after,
-        all: legal,
+    if !legal_run(before, ran) {
+        return None;
     }
+    Some(answer.machine)
 }

@@ -3,12 +3,13 @@ ghost use Rattle.std.specs.Prelude.{◌≡◌};
 ghost use Rattle.auditing.specs.Parts.{line_read};
 
 use text::fields::fill_from_line;
+use text::number::Limits;
 
-// The longest value, in digits.
-const VALUE_DIGITS: usize = 10;
-
-// The largest value.
-const MAX_VALUE: u32 = 4_294_967_295;
+// A value has at most 10 digits, and is one of 32 bits.
+const VALUES: Limits = Limits {
+    digits: 10,
+    largest: 4_294_967_295,
+};
 
 // The tasks that were released, were finished and ran in a slot, each as the sum of 2 to the power (task number - 1).
 #[derive(Clone, Copy)]
@@ -18,22 +19,15 @@ pub struct LogLine {
     pub ran: u32,
 }
 
-// The values of a line, or that it is broken.
-#[derive(Clone, Copy)]
-pub(crate) enum LineRead {
-    Read(LogLine),
-    Broken,
-}
-
-// The values of a line.
-pub(crate) fn read_line(line: &[u8]) -> LineRead
+// The values of a line, where it is not broken.
+pub(crate) fn read_line(line: &[u8]) -> Option<LogLine>
     ensures { result ≡ line_read line.now }
 {
     let mut values = [0u32; 3];
-    if !fill_from_line(line, &mut values, VALUE_DIGITS, MAX_VALUE) {
-        return LineRead::Broken;
+    if !fill_from_line(line, &mut values, VALUES) {
+        return None;
     }
-    LineRead::Read(LogLine {
+    Some(LogLine {
         released: values[0],
         finished: values[1],
         ran: values[2],

@@ -1,21 +1,22 @@
 -- After an accepted offer and any releases, finishes, slots and refused calls a commit is the join of that moment on the machine that holds none:
 -- `commit_as_join`. An offer's outcome is that of the join: `offer_as_join`. Over every list of calls from a start the table and the held task are what the
 -- log tells: `always_told`; so a commit is the join of the log's last accepted offer since the last accepted commit, or 17: `commit_by_log`.
+use Rattle.tasks.proofs.OutcomeLaws.{refused_not_done}
+use Rattle.tasks.specs.Refusals.{refusal}
+use Rattle.std.proofs.Common.{Ok, Err, None, Option, Some}
 use Prim.Native.Nat.{ℕ}
 use mathlib.Core.Path.{◌≡◌, refl, sym, ap, ◌∙◌}
 use mathlib.Core.Bool.{Bool, true, false, cond, not, ◌||◌}
 use mathlib.Core.List.{List, [], ◌∷◌}
 use lib.Dec.{leb}
 use borrow.Author.Tests.{lt-leb}
-use Rattle.laws.proofs.CaseSplits.{by_test, clash, not_both}
+use Rattle.laws.proofs.CaseSplits.{by_test, not_both}
 use Rattle.laws.proofs.Booleans.{and_left, and_right}
 use Rattle.tasks.specs.declared.task.Task.{Task}
 use Rattle.tasks.specs.declared.table.Table.{Table}
-use Rattle.tasks.specs.declared.outcome.Outcome.{Outcome}
-use Rattle.tasks.specs.declared.outcome.Outcome.TheVariants.{Done, Refused}
 use Rattle.tasks.specs.Limits.{max_tasks}
-use Rattle.tasks.specs.Refusals.{not_admitted, no_held_task}
-use Rattle.tasks.specs.Outcome.{is_done, first_refusal}
+use Rattle.tasks.specs.declared.refusals.Reason.TheVariants.{UnsoundMachine, NotAdmitted, NoHeldTask}
+use Rattle.tasks.specs.Outcome.{Outcome, is_done, first_refusal}
 use Rattle.tasks.specs.Task.{in_range}
 use Rattle.tasks.specs.Table.{with_task}
 use Rattle.judge.specs.SlackJudge.{admission_values_of, admission}
@@ -25,8 +26,6 @@ use Rattle.machine.specs.Offer.{offer_verdict, offer_checked}
 use Rattle.machine.specs.Calls.{done, refuse, start_after, start, offer_after, offer, with_joined, commit_held, commit, step}
 use Rattle.machine.specs.Play.{play, machine_after}
 use Rattle.machine.specs.InTime.{Point, point_by, point_after}
-use Rattle.machine.specs.declared.held.Held.{Held}
-use Rattle.machine.specs.declared.held.Held.TheVariants.{None, Offered}
 use Rattle.machine.specs.declared.machine.Machine.{Machine}
 use Rattle.machine.specs.declared.call.Call.{Call}
 use Rattle.machine.specs.declared.call.Call.TheVariants.{Release, Finish, Slot, Offer, Commit}
@@ -39,10 +38,10 @@ use Rattle.conformance.specs.FormerJoin.{join_after, join, holding_none, comes_b
 use Rattle.conformance.proofs.HeldApart.{sound_none}
 
 -- a machine that holds a task
-module _ (m : Machine) (ok : sound m ≡ true) (t : Task) (held_is_lem : m.held ≡ Offered t) where
+module _ (m : Machine) (ok : sound m ≡ true) (t : Task) (held_is_lem : m.held ≡ Some t) where
   commit_adds : commit m ≡ done (with_joined m t)
   unfolding commit commit_held
-  commit_adds = rw ok (ap (λ (h : Held). commit_held h m) held_is_lem)
+  commit_adds = rw ok (ap (λ (h : Option Task). commit_held h m) held_is_lem)
 
   join_adds : OfferFits m.table m.cores t → join (holding_none m) t ≡ done (with_joined m t)
   unfolding join join_after holding_none holding with_joined
@@ -76,7 +75,7 @@ between_keeps m call b =
     (λ d. rw d)
 
 after_between :
-    (calls : List Call) (m : Machine) (t : Task) → sound m ≡ true → m.held ≡ Offered t → all_between (play m calls) ≡ true
+    (calls : List Call) (m : Machine) (t : Task) → sound m ≡ true → m.held ≡ Some t → all_between (play m calls) ≡ true
     → CommitIsJoin (machine_after m calls) t
 unfolding play machine_after all_between
 after_between [] m t ok held_is_lem b = commit_joins m ok t held_is_lem
@@ -88,31 +87,31 @@ after_between (call ∷ calls) m t ok held_is_lem b =
 
 module _ (m : Machine) (t : Task) where
   -- an accepted offer was made to a sound machine
-  offer_sound : (offer m t).outcome ≡ Done → sound m ≡ true
+  offer_sound : (offer m t).outcome ≡ Ok tt → sound m ≡ true
   unfolding offer refuse
-  offer_sound e = by_test (sound m) (λ ok. ok) (λ no. let told : Refused 0 0 ≡ Done = rw no at e in clash cc)
+  offer_sound e = by_test (sound m) (λ ok. ok) (λ no. let told : Err (refusal UnsoundMachine 0) ≡ Ok tt = rw no at e in refused_not_done _ _ refl told)
 
   -- and is held after it
-  offer_held : (offer m t).outcome ≡ Done → (offer m t).machine.held ≡ Offered t
+  offer_held : (offer m t).outcome ≡ Ok tt → (offer m t).machine.held ≡ Some t
   unfolding step point_of point_by is_done
   offer_held e = ap (λ (p : Point). p.offered) (point_after_lem m (Offer t)) ∙ rw e
 
   after_offer :
-      (offer m t).outcome ≡ Done → (calls : List Call) → all_between (play (offer m t).machine calls) ≡ true
+      (offer m t).outcome ≡ Ok tt → (calls : List Call) → all_between (play (offer m t).machine calls) ≡ true
       → CommitIsJoin (machine_after (offer m t).machine calls) t
   unfolding step
   after_offer e calls = after_between calls (offer m t).machine t (call_keeps m (offer_sound e) (Offer t)).is_sound (offer_held e)
 
   offer_outcome : (checks : Outcome) → (offer_after checks m t).outcome ≡ checks
   unfolding offer_after done
-  offer_outcome Done = refl
-  offer_outcome (Refused number place) = refl
+  offer_outcome (Ok _) = refl
+  offer_outcome (Err why) = refl
 
-  last_outcome : (m' : Machine) (verdict : Outcome) (admits : Bool) → first_refusal verdict (cond admits Done (Refused not_admitted 0)) ≡ (join_after verdict admits m' t).outcome
+  last_outcome : (m' : Machine) (verdict : Outcome) (admits : Bool) → first_refusal verdict (cond admits (Ok tt) (Err (refusal NotAdmitted 0))) ≡ (join_after verdict admits m' t).outcome
   unfolding first_refusal join_after done refuse
-  last_outcome m' Done true = refl
-  last_outcome m' Done false = refl
-  last_outcome m' (Refused number place) admits = refl
+  last_outcome m' (Ok tt) true = refl
+  last_outcome m' (Ok tt) false = refl
+  last_outcome m' (Err why) admits = refl
 
   same_outcome : sound m ≡ true → (offer m t).outcome ≡ (join (holding_none m) t).outcome
   unfolding offer join offer_checked offer_verdict admission_values_of first_refusal holding_none holding refuse
@@ -142,7 +141,7 @@ told (call ∷ calls) m =
     let next = (step m call).machine in
     told calls next ∙ ap (λ (p : Point). point_after p (play next calls)) (point_after_lem m call)
 
-module _ (t : Table) (cores : ℕ) (starts : (start t cores).outcome ≡ Done) (calls : List Call) where
+module _ (t : Table) (cores : ℕ) (starts : (start t cores).outcome ≡ Ok tt) (calls : List Call) where
   -- the machine after the calls, and the point to which their log leads
   abbrev after : Machine
   after = machine_after (start t cores).machine calls
@@ -161,9 +160,9 @@ module _ (t : Table) (cores : ℕ) (starts : (start t cores).outcome ≡ Done) (
   unfolding point_of
   held_told = ap (λ (p : Point). p.offered) always_told
 
-  pub commit_by_log : (task : Task) → point.offered ≡ Offered task → CommitIsJoin after task
+  pub commit_by_log : (task : Task) → point.offered ≡ Some task → CommitIsJoin after task
   commit_by_log task e = commit_joins after (always_sound t cores starts calls).is_sound task (held_told ∙ e)
 
-  pub commit_none : point.offered ≡ None → commit after ≡ refuse after no_held_task
+  pub commit_none : point.offered ≡ None → commit after ≡ refuse after NoHeldTask
   unfolding commit commit_held
-  commit_none e = rw (always_sound t cores starts calls).is_sound (ap (λ (h : Held). commit_held h after) (held_told ∙ e))
+  commit_none e = rw (always_sound t cores starts calls).is_sound (ap (λ (h : Option Task). commit_held h after) (held_told ∙ e))

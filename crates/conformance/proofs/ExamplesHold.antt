@@ -1,12 +1,12 @@
 -- The examples all hold: `call_examples_hold`, `core_examples_hold`, `need_examples_hold` and `offer_examples_hold`. A run on a table that is not admitted can be late, and the claim of
 -- demand 3 is false of it: `late_run_refuted`.
+use Rattle.std.proofs.Common.{Ok}
 use mathlib.Core.Path.{◌≡◌, refl}
 use mathlib.Core.Bool.{true}
 use mathlib.Core.List.{[]}
 use lib.ListN.{get_or, take}
 use Rattle.laws.specs.Examples.{all_true}
 use Rattle.laws.proofs.CaseSplits.{not_both}
-use Rattle.tasks.specs.declared.outcome.Outcome.TheVariants.{Done}
 use Rattle.tasks.specs.Written.{table_of}
 use Rattle.machine.specs.Machine.{core_at}
 use Rattle.machine.specs.Slot.{no_report}
@@ -43,5 +43,5 @@ pub late_run_refuted : InTime (table_of whole) (answers whole 1 (session_calls w
 unfolding computing_runs whole
 late_run_refuted claim =
     let log = answers whole 1 (session_calls whole 1 5) in
-    let last : Entry = get_or log 6 (record { call = Slot 1; outcome = Done; report = no_report }) in
+    let last : Entry = get_or log 6 (record { call = Slot 1; outcome = Ok tt; report = no_report }) in
     not_both true refl (claim.none_late (take 6 log) [] last refl refl 1)

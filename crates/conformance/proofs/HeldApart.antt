@@ -1,10 +1,12 @@
 -- On a sound machine a release, a finish and a slot answer as if none were held, and keep what is: `held_plays_no_part`.
+use Rattle.tasks.specs.declared.refusals.Reason.{Reason}
+use Rattle.std.proofs.Common.{None}
 use Prim.Native.Nat.{ℕ, ◌-◌}
 use mathlib.Core.Path.{◌≡◌, refl}
 use mathlib.Core.Bool.{true, false, cond, not}
 use lib.Dec.{ltb}
 use Rattle.laws.proofs.CaseSplits.{of_either, not_both}
-use Rattle.tasks.specs.Refusals.{unsound_machine}
+use Rattle.tasks.specs.declared.refusals.Reason.TheVariants.{UnsoundMachine}
 use Rattle.job.specs.Job.{need_in_range}
 use Rattle.machine.specs.Machine.{task_at, job_at, with_job, holding, in_table}
 use Rattle.machine.specs.Pick.{open_count, runner_count}
@@ -13,7 +15,6 @@ use Rattle.machine.specs.Cores.{slot_assignment, with_assigned}
 use Rattle.machine.specs.Offer.{held_sound}
 use Rattle.machine.specs.Sound.{sound}
 use Rattle.machine.specs.Calls.{done, refuse, release, finish, slot_cores_in_range, slot, step}
-use Rattle.machine.specs.declared.held.Held.TheVariants.{None}
 use Rattle.machine.specs.declared.machine.Machine.{Machine}
 use Rattle.machine.specs.declared.call.Call.{Call}
 use Rattle.machine.specs.declared.call.Call.TheVariants.{Release, Finish, Slot, Offer, Commit}
@@ -31,13 +32,13 @@ module _ (m : Machine) (ok : sound m ≡ true) where
   abbrev keeping : Answer → Answer
   keeping = answer_holding m.held
 
-  refused : (number : ℕ) → keeping (refuse (holding_none m) number) ≡ refuse m number
+  refused : (reason : Reason) → keeping (refuse (holding_none m) reason) ≡ refuse m reason
   unfolding answer_holding holding_none holding refuse
-  refused number = refl
+  refused reason = refl
 
   -- past the test that refuses an unsound machine, which neither is
   past_0 : (a b : Answer) → keeping a ≡ b
-      → keeping (cond (not (sound (holding_none m))) (refuse (holding_none m) unsound_machine) a) ≡ cond (not (sound m)) (refuse m unsound_machine) b
+      → keeping (cond (not (sound (holding_none m))) (refuse (holding_none m) UnsoundMachine) a) ≡ cond (not (sound m)) (refuse m UnsoundMachine) b
   past_0 a b e = rw (ok, sound_none) e
 
   release_alike : (number need : ℕ) → keeping (release (holding_none m) number need) ≡ release m number need

@@ -1,14 +1,15 @@
 -- Who runs in a slot depends neither on the recorded cores nor on what is held: `same_runners`, and their order neither: `same_order`.
+use Rattle.tasks.specs.declared.task.Task.{Task}
+use Rattle.std.proofs.Common.{Option}
 use Prim.Native.Nat.{ℕ, zero, suc}
 use mathlib.Core.Path.{◌≡◌, refl}
 use mathlib.Core.List.{List}
 use Rattle.machine.specs.Machine.{job_at}
 use Rattle.machine.specs.Pick.{open_count, waiting, precedes, candidates, pick, runner_count, runners}
 use Rattle.machine.specs.Cores.{runner_order}
-use Rattle.machine.specs.declared.held.Held.{Held}
 use Rattle.machine.specs.declared.machine.Machine.{Machine}
 
-module _ (m : Machine) (assigned : List ℕ) (held : Held) where
+module _ (m : Machine) (assigned : List ℕ) (held : Option Task) where
   -- the machine with these cores recorded that holds this
   unfoldable pub other : Machine
   other = record { table = m.table; cores = m.cores; jobs = m.jobs; assigned = assigned; held = held }

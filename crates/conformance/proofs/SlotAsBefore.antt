@@ -1,6 +1,8 @@
 -- On every sound machine a slot without its cores is the slot of before on the machine without cores (`slot_as_before`), and no other call depends on the
 -- recorded cores (`release_alike`, `finish_alike`, `offer_alike`, `commit_alike`). So two sound machines that differ in their cores alone answer alike
 -- (`cores_play_no_part`), and over every list of calls from a start the answers without their cores are those of before (`list_as_before`).
+use Rattle.tasks.specs.declared.refusals.Reason.{Reason}
+use Rattle.std.proofs.Common.{Ok, Err, None, Option, Some}
 use Prim.Native.Nat.{ℕ, ◌-◌}
 use mathlib.Core.Path.{◌≡◌, refl, sym, ap, ◌∙◌}
 use mathlib.Core.Bool.{true, cond, not}
@@ -10,10 +12,9 @@ use Rattle.laws.proofs.CaseSplits.{of_either}
 use Rattle.laws.proofs.Replaced.{set_replicate}
 use Rattle.tasks.specs.declared.task.Task.{Task}
 use Rattle.tasks.specs.declared.table.Table.{Table}
-use Rattle.tasks.specs.declared.outcome.Outcome.{Outcome}
-use Rattle.tasks.specs.declared.outcome.Outcome.TheVariants.{Done, Refused}
+use Rattle.tasks.specs.Outcome.{Outcome}
 use Rattle.tasks.specs.Limits.{max_tasks}
-use Rattle.tasks.specs.Refusals.{unsound_machine}
+use Rattle.tasks.specs.declared.refusals.Reason.TheVariants.{UnsoundMachine}
 use Rattle.job.specs.Job.{need_in_range}
 use Rattle.machine.specs.Machine.{task_at, job_at, with_job, holding, in_table}
 use Rattle.machine.specs.Offer.{offer_checked}
@@ -22,8 +23,6 @@ use Rattle.machine.specs.Cores.{with_assigned}
 use Rattle.machine.specs.Sound.{sound}
 use Rattle.machine.specs.Calls.{done, refuse, start_after, start, release, finish, slot_cores_in_range, slot, offer_after, offer, with_joined, commit_held, commit, step}
 use Rattle.machine.specs.Play.{play}
-use Rattle.machine.specs.declared.held.Held.{Held}
-use Rattle.machine.specs.declared.held.Held.TheVariants.{None, Offered}
 use Rattle.machine.specs.declared.machine.Machine.{Machine}
 use Rattle.machine.specs.declared.call.Call.{Call}
 use Rattle.machine.specs.declared.call.Call.TheVariants.{Release, Finish, Slot, Offer, Commit}
@@ -40,14 +39,14 @@ module _ (m : Machine) where
     unfolding machine_without_cores no_cores task_at job_at
     sound_without = make_sound (machine_without_cores m) (sound_checks m ok) (sound_job m ok) (fresh_cores m.table.count max_tasks) (sound_held m ok)
 
-    refused : (number : ℕ) → answer_without_cores (refuse m number) ≡ refuse (machine_without_cores m) number
+    refused : (reason : Reason) → answer_without_cores (refuse m reason) ≡ refuse (machine_without_cores m) reason
     unfolding answer_without_cores report_without_cores no_cores refuse no_report
-    refused number = refl
+    refused reason = refl
 
     -- past the test that refuses an unsound machine, which neither is
     past_0 : (a b : Answer) → answer_without_cores a ≡ b
-        → answer_without_cores (cond (not (sound m)) (refuse m unsound_machine) a)
-        ≡ cond (not (sound (machine_without_cores m))) (refuse (machine_without_cores m) unsound_machine) b
+        → answer_without_cores (cond (not (sound m)) (refuse m UnsoundMachine) a)
+        ≡ cond (not (sound (machine_without_cores m))) (refuse (machine_without_cores m) UnsoundMachine) b
     past_0 a b e = rw (ok, sound_without) e
 
     pub slot_as_before : (k : ℕ) → answer_without_cores (slot m k) ≡ former_slot (machine_without_cores m) k
@@ -69,8 +68,8 @@ module _ (m : Machine) where
 
     offered_alike : (t : Task) (checks : Outcome) → answer_without_cores (offer_after checks m t) ≡ offer_after checks (machine_without_cores m) t
     unfolding offer_after answer_without_cores machine_without_cores report_without_cores no_cores done holding no_report
-    offered_alike t Done = refl
-    offered_alike t (Refused number place) = refl
+    offered_alike t (Ok tt) = refl
+    offered_alike t (Err why) = refl
 
     pub offer_alike : (t : Task) → answer_without_cores (offer m t) ≡ offer (machine_without_cores m) t
     unfolding offer machine_without_cores
@@ -81,10 +80,10 @@ module _ (m : Machine) where
     unfolding machine_without_cores no_cores with_joined
     joined_alike t = rw (set_replicate {A = ℕ} max_tasks m.table.count 0)
 
-    held_alike : (held : Held) → answer_without_cores (commit_held held m) ≡ commit_held held (machine_without_cores m)
+    held_alike : (held : Option Task) → answer_without_cores (commit_held held m) ≡ commit_held held (machine_without_cores m)
     unfolding commit_held answer_without_cores report_without_cores no_cores done no_report
     held_alike None = refused _
-    held_alike (Offered t) = rw (joined_alike t)
+    held_alike (Some t) = rw (joined_alike t)
 
     pub commit_alike : answer_without_cores (commit m) ≡ commit (machine_without_cores m)
     unfolding commit machine_without_cores
@@ -111,7 +110,7 @@ log_as_before (call ∷ calls) m ok =
     let rest = log_as_before calls (step m call).machine (call_keeps m ok call).is_sound in
     rw (← call_as_before m ok call, rest)
 
-module _ (t : Table) (cores : ℕ) (starts : (start t cores).outcome ≡ Done) where
+module _ (t : Table) (cores : ℕ) (starts : (start t cores).outcome ≡ Ok tt) where
   -- a start records no core
   fresh_without : machine_without_cores (start t cores).machine ≡ (start t cores).machine
   unfolding machine_without_cores no_cores start start_after done

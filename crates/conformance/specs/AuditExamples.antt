@@ -3,7 +3,7 @@ use Rattle.std.specs.Prelude.{ℕ, Bool, false, List, [], ◌∷◌, ◌++◌, g
 use Rattle.text.specs.Lines.{line_end}
 use Rattle.tasks.specs.declared.table.Table.{Table}
 use Rattle.tasks.specs.Written.{task, table_of}
-use Rattle.tasks.specs.Refusals.{bad_log_line, no_task, cores_out_of_range}
+use Rattle.tasks.specs.declared.refusals.Reason.TheVariants.{BadLogLine, NoTask, CoresOutOfRange}
 use Rattle.machine.specs.Calls.{start}
 use Rattle.auditing.specs.Log.{names_line}
 use Rattle.auditing.specs.Line.{running_of}
@@ -48,11 +48,11 @@ unfoldable pub offends : (line : ℕ) → List LogLine → (more : List ℕ) →
 offends line ls more = record { gives = audited case_j 2 (log_with ls more); must = offending_log line }
 
 unfoldable pub broken : (line : ℕ) → List LogLine → (more : List ℕ) → AuditExample
-broken line ls more = record { gives = audited case_j 2 (log_with ls more); must = refused_log bad_log_line line }
+broken line ls more = record { gives = audited case_j 2 (log_with ls more); must = refused_log BadLogLine line }
 
 -- such a text is no log: number 18 at the names line
 unfoldable pub nameless : (text : List ℕ) → AuditExample
-nameless text = record { gives = audited case_j 2 text; must = refused_log bad_log_line 0 }
+nameless text = record { gives = audited case_j 2 text; must = refused_log BadLogLine 0 }
 
 -- the bytes of "0 0" and byte 10, of "07 0 3" and byte 10, of "4294967296 0 0" and byte 10, of "10000000000 0 0" and byte 10, and of "0 0 0", not ended
 unfoldable pub two_values : List ℕ
@@ -106,8 +106,8 @@ audit_examples =
     -- a late job does not offend
     record { gives = audited case_k 1 (log_with (late_lines ++ values 0 0 1 ∷ values 3 0 2 ∷ []) []); must = accepted_log } ∷
     -- the table and m go before the log
-    record { gives = audited (table_of []) 2 []; must = refused_log no_task 0 } ∷
-    record { gives = audited case_j 17 []; must = refused_log cores_out_of_range 0 } ∷
+    record { gives = audited (table_of []) 2 []; must = refused_log NoTask 0 } ∷
+    record { gives = audited case_j 17 []; must = refused_log CoresOutOfRange 0 } ∷
     []
 
 -- whether task 2 is late in line 5 of the log with the late job

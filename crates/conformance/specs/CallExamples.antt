@@ -1,14 +1,13 @@
 -- Examples beside the cases of document 01, as entries of a list of computed tests: tasks that are added (document 02, changes 6 and 10), a task that turns
 -- urgent, refused calls, slots with other cores than the machine's (change 1), jobs of equal deadlines (change 2), and machines made by hand (change 3). `all_true` of crate laws
 -- is the test; the theorem stands in proofs/ExamplesHold.antt.
-use Rattle.std.specs.Prelude.{ℕ, Bool, true, false, not, List, [], ◌∷◌, ◌++◌, eqb, set, replicate, take, drop}
+use Rattle.std.specs.Prelude.{ℕ, Bool, true, false, not, List, [], ◌∷◌, ◌++◌, eqb, set, replicate, take, drop, None}
 use Rattle.laws.specs.Examples.{same_numbers}
 use Rattle.tasks.specs.declared.task.Task.{Task}
 use Rattle.tasks.specs.Limits.{max_tasks}
 use Rattle.tasks.specs.Table.{empty_table}
 use Rattle.tasks.specs.Written.{task, table_of}
 use Rattle.job.specs.Job.{fresh_job}
-use Rattle.machine.specs.declared.held.Held.TheVariants.{None}
 use Rattle.machine.specs.declared.machine.Machine.{Machine}
 use Rattle.machine.specs.Sound.{sound}
 use Rattle.machine.specs.Play.{play}

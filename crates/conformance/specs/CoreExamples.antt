@@ -1,6 +1,6 @@
 -- Examples of document 02's change 4 on the machine, as entries of a list of computed tests: `all_true` of crate laws is the test, and the
 -- theorem stands in proofs/ExamplesHold.antt. Those of the assignment alone are in crate cores.
-use Rattle.std.specs.Prelude.{ℕ, Bool, true, false, cond, not, ◌&&◌, ◌||◌, List, [], ◌∷◌, ◌++◌, eqb, length, take, replicate}
+use Rattle.std.specs.Prelude.{ℕ, Bool, true, false, cond, not, ◌&&◌, ◌||◌, List, [], ◌∷◌, ◌++◌, eqb, length, take, replicate, None}
 use Rattle.tasks.specs.declared.task.Task.{Task}
 use Rattle.tasks.specs.Limits.{max_tasks}
 use Rattle.tasks.specs.Table.{empty_table}
@@ -12,7 +12,6 @@ use Rattle.machine.specs.Calls.{start}
 use Rattle.machine.specs.Play.{Entry, play, machine_after}
 use Rattle.machine.specs.InTime.{accepted_slot}
 use Rattle.tasks.specs.Written.{task, table_of}
-use Rattle.machine.specs.declared.held.Held.TheVariants.{None}
 use Rattle.machine.specs.declared.machine.Machine.{Machine}
 use Rattle.machine.specs.declared.call.Call.{Call}
 use Rattle.machine.specs.declared.call.Call.TheVariants.{Release, Finish, Slot, Offer, Commit}

@@ -1,12 +1,10 @@
 -- Document 01's join, which became offer and commit by document 02's change 10, said on the present machine; and the words in which the theorems of
 -- proofs/CommitAsJoin.antt and proofs/HeldApart.antt speak of what comes between the two, with what they say. Nothing else uses them.
-use Rattle.std.specs.Prelude.{◌≡◌, Bool, true, false, cond, not, ◌&&◌, ◌||◌, List, [], ◌∷◌, leb}
+use Rattle.std.specs.Prelude.{◌≡◌, Bool, true, false, cond, not, ◌&&◌, ◌||◌, List, [], ◌∷◌, leb, Ok, Err, None, Option}
 use Rattle.tasks.specs.declared.task.Task.{Task}
-use Rattle.tasks.specs.declared.outcome.Outcome.{Outcome}
-use Rattle.tasks.specs.declared.outcome.Outcome.TheVariants.{Done, Refused}
 use Rattle.tasks.specs.Limits.{max_tasks}
-use Rattle.tasks.specs.Refusals.{unsound_machine, task_out_of_range, table_full, not_admitted}
-use Rattle.tasks.specs.Outcome.{is_done}
+use Rattle.tasks.specs.declared.refusals.Reason.TheVariants.{UnsoundMachine, TaskOutOfRange, TableFull, NotAdmitted}
+use Rattle.tasks.specs.Outcome.{Outcome, is_done}
 use Rattle.tasks.specs.Task.{in_range}
 use Rattle.tasks.specs.Table.{with_task}
 use Rattle.judge.specs.SlackJudge.{admission}
@@ -15,8 +13,6 @@ use Rattle.machine.specs.Slot.{no_report}
 use Rattle.machine.specs.Sound.{sound}
 use Rattle.machine.specs.Calls.{done, refuse, offer, with_joined, commit, step}
 use Rattle.machine.specs.Play.{Entry, play, machine_after}
-use Rattle.machine.specs.declared.held.Held.{Held}
-use Rattle.machine.specs.declared.held.Held.TheVariants.{None}
 use Rattle.machine.specs.declared.machine.Machine.{Machine}
 use Rattle.machine.specs.declared.call.Call.{Call}
 use Rattle.machine.specs.declared.call.Call.TheVariants.{Release, Finish, Slot, Offer, Commit}
@@ -25,23 +21,23 @@ use Rattle.machine.specs.declared.answer.Answer.{Answer}
 -- a join, after the verdict on the longer table: "if the longer table is admitted on m cores"; "A join whose verdict is a refusal ends there with
 -- that refusal."
 unfoldable pub join_after : Outcome → (admits : Bool) → Machine → Task → Answer
-join_after Done admits m t = cond admits (done (with_joined m t)) (refuse m not_admitted)
-join_after (Refused number place) admits m t = record { machine = m; outcome = Refused number place; report = no_report }
+join_after (Ok _) admits m t = cond admits (done (with_joined m t)) (refuse m NotAdmitted)
+join_after (Err why) admits m t = record { machine = m; outcome = Err why; report = no_report }
 
 -- document 01: "Join: 5, 12, 13", after 0; change 6: "Joins .. go by this test"; the machine is to hold none
 unfoldable pub join : Machine → Task → Answer
 join m t =
     let verdict = admission (with_task m.table t) m.cores in
-    cond (not (sound m)) (refuse m unsound_machine)
-    (cond (not (in_range t)) (refuse m task_out_of_range)
-    (cond (leb max_tasks m.table.count) (refuse m table_full) (join_after verdict.outcome verdict.admits m t)))
+    cond (not (sound m)) (refuse m UnsoundMachine)
+    (cond (not (in_range t)) (refuse m TaskOutOfRange)
+    (cond (leb max_tasks m.table.count) (refuse m TableFull) (join_after verdict.outcome verdict.admits m t)))
 
 -- the machine that holds none
 unfoldable pub holding_none : Machine → Machine
 holding_none m = holding m None
 
 -- an answer whose machine holds this
-unfoldable pub answer_holding : Held → Answer → Answer
+unfoldable pub answer_holding : Option Task → Answer → Answer
 answer_holding held a = record { machine = holding a.machine held; outcome = a.outcome; report = a.report }
 
 -- change 10: "Releases, finishes and slots may come between."
@@ -61,13 +57,13 @@ all_between (e ∷ log) = (not (is_done e.outcome) || comes_between e.call) && a
 -- and the report
 pub record CommitIsJoin (m : Machine) (t : Task) : Type 0 where
   pub same : commit m ≡ join (holding_none m) t
-  pub accepted : (commit m).outcome ≡ Done
+  pub accepted : (commit m).outcome ≡ Ok tt
   pub none_held : (commit m).machine.held ≡ None
 
 -- this after every accepted offer and any releases, finishes, slots and refused calls
 unfoldable pub CommitsAsJoins : Type 0
 CommitsAsJoins =
-    (m : Machine) (t : Task) → (offer m t).outcome ≡ Done → (calls : List Call) → all_between (play (offer m t).machine calls) ≡ true
+    (m : Machine) (t : Task) → (offer m t).outcome ≡ Ok tt → (calls : List Call) → all_between (play (offer m t).machine calls) ≡ true
     → CommitIsJoin (machine_after (offer m t).machine calls) t
 
 -- "Offer runs join's checks": on every sound machine

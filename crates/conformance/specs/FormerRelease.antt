@@ -1,7 +1,7 @@
 -- The release as it was before document 02's change 5, for the theorem `whole_as_before`, and as it was before change 3, with soundness as it was, for the
 -- theorem `release_as_before` (proofs/ReleaseAsBefore.antt). Beside these theorems only an example of each cites them.
 use Rattle.std.specs.Prelude.{ℕ, zero, suc, ◌-◌, Bool, true, cond, not, ◌&&◌, ltb}
-use Rattle.tasks.specs.Refusals.{unsound_machine, no_such_task, released_too_soon}
+use Rattle.tasks.specs.declared.refusals.Reason.TheVariants.{UnsoundMachine, NoSuchTask, ReleasedTooSoon, JobStillOpen}
 use Rattle.tasks.specs.Check.{checked}
 use Rattle.tasks.specs.Outcome.{is_done}
 use Rattle.tasks.specs.declared.task.Task.{Task}
@@ -21,9 +21,9 @@ whole_job t = record { «open» = true; left = t.deadline; budget = t.budget; ga
 unfoldable pub whole_release : Machine → (number : ℕ) → Answer
 whole_release m number =
     let i = number - 1 in
-    cond (not (sound m)) (refuse m unsound_machine)
-    (cond (not (in_table m number)) (refuse m no_such_task)
-    (cond (ltb 0 (job_at m i).gap) (refuse m released_too_soon) (done (with_job m i (whole_job (task_at m i))))))
+    cond (not (sound m)) (refuse m UnsoundMachine)
+    (cond (not (in_table m number)) (refuse m NoSuchTask)
+    (cond (ltb 0 (job_at m i).gap) (refuse m ReleasedTooSoon) (done (with_job m i (whole_job (task_at m i))))))
 
 -- the first n jobs were sound
 unfoldable pub former_jobs_sound : Machine → (n : ℕ) → Bool
@@ -38,7 +38,7 @@ former_sound m = is_done (checked m.table m.cores) && former_jobs_sound m m.tabl
 unfoldable pub former_release : Machine → (number : ℕ) → Answer
 former_release m number =
     let i = number - 1 in
-    cond (not (former_sound m)) (refuse m unsound_machine)
-    (cond (not (in_table m number)) (refuse m no_such_task)
-    (cond (ltb 0 (job_at m i).gap) (refuse m released_too_soon)
-    (cond (job_at m i).«open» (refuse m 10) (done (with_job m i (whole_job (task_at m i)))))))
+    cond (not (former_sound m)) (refuse m UnsoundMachine)
+    (cond (not (in_table m number)) (refuse m NoSuchTask)
+    (cond (ltb 0 (job_at m i).gap) (refuse m ReleasedTooSoon)
+    (cond (job_at m i).«open» (refuse m JobStillOpen) (done (with_job m i (whole_job (task_at m i)))))))

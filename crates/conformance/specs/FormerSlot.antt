@@ -1,8 +1,7 @@
 -- The slot as it was before document 02's change 4, said on the present machine with no core recorded, for the theorems of proofs/SlotAsBefore.antt alone.
-use Rattle.std.specs.Prelude.{ℕ, cond, not, List, [], ◌∷◌, replicate}
-use Rattle.tasks.specs.declared.outcome.Outcome.TheVariants.{Done}
+use Rattle.std.specs.Prelude.{ℕ, cond, not, List, [], ◌∷◌, replicate, Ok}
 use Rattle.tasks.specs.Limits.{max_tasks}
-use Rattle.tasks.specs.Refusals.{unsound_machine, slot_cores_out_of_range}
+use Rattle.tasks.specs.declared.refusals.Reason.TheVariants.{UnsoundMachine, SlotCoresOutOfRange}
 use Rattle.machine.specs.Pick.{runners}
 use Rattle.machine.specs.Slot.{slot_report, after_slot}
 use Rattle.machine.specs.Sound.{sound}
@@ -42,9 +41,9 @@ log_without_cores (e ∷ log) =
 unfoldable pub former_slot : Machine → (k : ℕ) → Answer
 former_slot m k =
     let ran = runners m k in
-    cond (not (sound m)) (refuse m unsound_machine)
-    (cond (not (slot_cores_in_range m k)) (refuse m slot_cores_out_of_range)
-    (record { machine = after_slot m ran; outcome = Done; report = slot_report m ran no_cores }))
+    cond (not (sound m)) (refuse m UnsoundMachine)
+    (cond (not (slot_cores_in_range m k)) (refuse m SlotCoresOutOfRange)
+    (record { machine = after_slot m ran; outcome = Ok tt; report = slot_report m ran no_cores }))
 
 -- a call with the slot of before; the others are what they are
 unfoldable pub former_step : Machine → Call → Answer

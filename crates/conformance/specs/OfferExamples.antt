@@ -1,6 +1,6 @@
 -- Examples of offers and commits (document 02, change 10), as entries of a list of computed tests. `all_true` of crate laws is the test; the theorem stands in
 -- proofs/ExamplesHold.antt.
-use Rattle.std.specs.Prelude.{ℕ, Bool, true, not, List, [], ◌∷◌, eqb, set, take, drop, replicate}
+use Rattle.std.specs.Prelude.{ℕ, Bool, true, not, List, [], ◌∷◌, eqb, set, take, drop, replicate, None, Option, Some}
 use Rattle.laws.specs.Examples.{same_numbers}
 use Rattle.tasks.specs.declared.task.Task.{Task}
 use Rattle.tasks.specs.Limits.{max_tasks}
@@ -12,8 +12,6 @@ use Rattle.machine.specs.Sound.{sound}
 use Rattle.machine.specs.Calls.{start}
 use Rattle.machine.specs.Play.{play, machine_after}
 use Rattle.machine.specs.InTime.{closed_by_slot}
-use Rattle.machine.specs.declared.held.Held.{Held}
-use Rattle.machine.specs.declared.held.Held.TheVariants.{None, Offered}
 use Rattle.machine.specs.declared.machine.Machine.{Machine}
 use Rattle.machine.specs.declared.call.Call.{Call}
 use Rattle.machine.specs.declared.call.Call.TheVariants.{Release, Finish, Slot, Offer, Commit}
@@ -24,9 +22,9 @@ use Rattle.conformance.specs.CallExamples.{many, without_tasks, made_by_hand, al
 unfoldable pub task_numbers : Task → List ℕ
 task_numbers t = t.period ∷ t.budget ∷ t.deadline ∷ []
 
-unfoldable pub held_numbers : Held → List ℕ
+unfoldable pub held_numbers : Option Task → List ℕ
 held_numbers None = []
-held_numbers (Offered t) = task_numbers t
+held_numbers (Some t) = task_numbers t
 
 -- the machine after these calls, from a start
 unfoldable pub reached : List Task → (cores : ℕ) → List Call → Machine
@@ -38,7 +36,7 @@ held_is tasks cores calls numbers = same_numbers (held_numbers (reached tasks co
 
 -- a machine made by hand: a fresh one that holds this task
 unfoldable pub with_held : List Task → (cores : ℕ) → Task → Machine
-with_held tasks cores t = holding (start (table_of tasks) cores).machine (Offered t)
+with_held tasks cores t = holding (start (table_of tasks) cores).machine (Some t)
 
 -- two tasks, to be on 2 cores
 unfoldable pub two : List Task
@@ -64,7 +62,7 @@ left_over =
       cores = 1;
       jobs = set (replicate max_tasks fresh_job) 1 (record { «open» = true; left = 9; budget = 9; gap = 9 });
       assigned = set (replicate max_tasks 0) 1 17;
-      held = Offered (task 9 1 9);
+      held = Some (task 9 1 9);
     }
 
 -- runs of the machine, and machines made by hand
@@ -118,8 +116,8 @@ offer_examples =
     -- and leaves what is held
     same_numbers (held_numbers (machine_after (with_held two 2 (task 5 6 5)) all_kinds).held) (5 ∷ 6 ∷ 5 ∷ []) ∷
     -- what an unsound job makes unsound stays so with a held task that an offer would take
-    not (sound (holding (made_by_hand true 4 2 3) (Offered (task 9 1 9)))) ∷
-    sound (holding (made_by_hand true 4 2 4) (Offered (task 9 1 9))) ∷
+    not (sound (holding (made_by_hand true 4 2 3) (Some (task 9 1 9)))) ∷
+    sound (holding (made_by_hand true 4 2 4) (Some (task 9 1 9))) ∷
     same_numbers (refusals (play without_tasks (Commit ∷ []))) (0 ∷ []) ∷
     -- a commit writes all of the new task's entry, whatever stood there
     same_numbers (task_numbers (task_at (machine_after left_over (Commit ∷ [])) 1)) (9 ∷ 1 ∷ 9 ∷ []) ∷

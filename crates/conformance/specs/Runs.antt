@@ -1,9 +1,9 @@
 -- Runs of the machine, and the words in which computed tests speak of them.
-use Rattle.std.specs.Prelude.{ℕ, suc, ◌+◌, Bool, true, false, cond, ◌&&◌, List, [], ◌∷◌, ◌++◌, eqb, replicate}
+use Rattle.std.specs.Prelude.{ℕ, suc, ◌+◌, Bool, true, false, cond, ◌&&◌, List, [], ◌∷◌, ◌++◌, eqb, replicate, Ok, Err}
 use Rattle.laws.specs.Examples.{same_numbers}
 use Rattle.tasks.specs.declared.task.Task.{Task}
-use Rattle.tasks.specs.declared.outcome.Outcome.{Outcome}
-use Rattle.tasks.specs.declared.outcome.Outcome.TheVariants.{Done, Refused}
+use Rattle.tasks.specs.Outcome.{Outcome}
+use Rattle.tasks.specs.Refusals.{number_of}
 use Rattle.tasks.specs.Written.{table_of}
 use Rattle.tasks.specs.Flags.{mask}
 use Rattle.machine.specs.Calls.{start}
@@ -56,8 +56,8 @@ same_lines (x ∷ s) (y ∷ t) = eqb x.ran y.ran && eqb x.finished y.finished &&
 
 -- the refusal number of an outcome, if it is one, in front of others
 unfoldable pub refusal_before : Outcome → List ℕ → List ℕ
-refusal_before Done numbers = numbers
-refusal_before (Refused number place) numbers = number ∷ numbers
+refusal_before (Ok _) numbers = numbers
+refusal_before (Err why) numbers = number_of why.reason ∷ numbers
 
 -- the refusal numbers of the refused calls
 unfoldable pub refusals : List Entry → List ℕ
@@ -82,8 +82,8 @@ ignored_is tasks cores before call number after lines =
 
 -- the outcome is a refusal at place 0
 unfoldable pub at_place0 : Outcome → Bool
-at_place0 Done = false
-at_place0 (Refused number place) = eqb place 0
+at_place0 (Ok _) = false
+at_place0 (Err why) = eqb why.place 0
 
 -- the calls are refused, each at place 0 with a report that "names no task and gives 0 runners"
 unfoldable pub empty_refusals : List Entry → Bool

@@ -1,4 +1,4 @@
--- The runners that keep their cores, from the last to the first, as the code goes: `Keeping`, with `keeping_length`, `keeping_none`, `keeping_more`, `keeping_large` and
+-- The runners that keep their cores, from the last to the first, as the code goes: `Keeping`, with `keeping_none`, `keeping_more`, `keeping_large` and
 -- `keeping_far`.
 use Prim.Native.Nat.{ℕ, suc, ◌-◌, ◌≤◌, ◌<◌}
 use mathlib.Core.Path.{◌≡◌, sym, ap, ◌∙◌}
@@ -23,11 +23,6 @@ pub record Keeping (recorded : List ℕ) (k : ℕ) (runners assigned : List ℕ)
   pub within : n ≤ length runners
   pub are : assigned ≡ kept recorded k (drop n runners)
   pub flagged : Flagged assigned used
-
-pub keeping_length :
-    {recorded : List ℕ} {k : ℕ} {runners assigned : List ℕ} {used : List Bool} {n : ℕ} → Keeping recorded k runners assigned used n
-    → length assigned ≡ max_tasks
-keeping_length {recorded} {k} {runners} {assigned} {used} {n} now = rw now.are (length_kept recorded k (drop n runners))
 
 -- no core is among zeros
 none_among : (n x : ℕ) → 1 ≤ x → is_among (replicate n 0) x ≡ false

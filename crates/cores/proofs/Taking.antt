@@ -1,5 +1,5 @@
--- The runners that take a core, in precedence, as the code goes: `Taking`, with `taking_none`, `taking_one`, `taking_has` and `taking_far`; `takes_lowest` says
--- that the flags give the lowest unused core, and `lowest_fits` that it is no more than the tasks.
+-- The runners that take a core, in precedence, as the code goes: `Taking`, with `taking_none`, `taking_found`, `taking_has` and `taking_far`; and
+-- `found_fits`, that a core found by the flags is no more than the tasks.
 use Prim.Native.Nat.{ℕ, ◌+◌, ◌≤◌, ◌<◌, min}
 use mathlib.Core.Path.{◌≡◌, refl, ap, ◌∙◌}
 use mathlib.Core.List.{List, ◌∷◌}
@@ -75,19 +75,20 @@ module _
         }
 
     module _ (h : next < max_tasks) (none : get_or assigned next 0 ≡ 0) where
-      pub takes_lowest : first_unused (λ core. get_or used core false) 1 (min k max_tasks) ≡ lowest
+      takes_lowest : first_unused (λ core. get_or used core false) 1 (min k max_tasks) ≡ lowest
       takes_lowest =
           first_same (λ core. get_or used core false) (is_among assigned) 1 (min k max_tasks) (λ c from below. now.flagged.flag c from (omega arith))
           ∙ first_within assigned k max_tasks (omega (arith, some_few assigned next (omega (arith, now.all_there)) none, now.all_there))
 
-      pub lowest_fits : lowest ≤ max_tasks
-      lowest_fits = omega (arith, takes_lowest, first_bound (λ core. get_or used core false) 1 (min k max_tasks) (omega arith))
+      -- the core that is found by the flags
+      module _ (found : ℕ) (is_first : found ≡ first_unused (λ core. get_or used core false) 1 (min k max_tasks)) where
+        pub found_fits : found ≤ max_tasks
+        found_fits = omega (arith, is_first, first_bound (λ core. get_or used core false) 1 (min k max_tasks) (omega arith))
 
-      pub taking_one : Taking k runners start (set assigned next lowest) (set used lowest true) (n + 1)
-      taking_one =
-          record {
-            left = takes none;
-            all_there = length-set assigned next lowest ∙ now.all_there;
-            flagged =
-                flag_set assigned used now.flagged next lowest (omega (arith, now.all_there)) (inl none) lowest_fits;
-          }
+        pub taking_found : Taking k runners start (set assigned next found) (set used found true) (n + 1)
+        taking_found =
+            record {
+              left = rw (is_first ∙ takes_lowest) (takes none);
+              all_there = length-set assigned next found ∙ now.all_there;
+              flagged = flag_set assigned used now.flagged next found (omega (arith, now.all_there)) (inl none) found_fits;
+            }

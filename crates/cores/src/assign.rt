@@ -12,24 +12,21 @@ pub type Cores = [u32; MAX_TASKS];
 // A flag for 0 and for as many cores as there are tasks: while a task has none, one of these is unused.
 const USED_FLAGS: usize = MAX_TASKS + 1;
 
-// The core that a runner keeps, by its recorded one: 0 where it keeps none.
+// The core that a runner keeps, by its recorded one: 0 where it keeps none, as records and reports write no core (document 02, change 4).
+#[tactic(auto, unfolding(crate::specs::Assign::kept_core))]
 fn kept_core(recorded: u32, available: u32) -> u32
     ensures { result ≡ kept_core recorded available }
 {
-    if recorded <= available {
-        return recorded;
-    }
-    0
+    if recorded <= available { recorded } else { 0 }
 }
 
 // Puts the cores of the runners that keep theirs into an array of no cores, and their flags into one of none.
 fn keep(recorded: Cores, runners: &[usize], available: u32, cores: &mut [u32], used: &mut [bool])
-    requires { (cores.old ≡ replicate max_tasks 0) × (used.old ≡ replicate (suc max_tasks) false) }
+    requires no_cores { cores.old ≡ replicate max_tasks 0 }
+    requires no_flags { used.old ≡ replicate (suc max_tasks) false }
     ensures { KeptCores recorded available runners.now cores.new used.new }
 {
-    let mut n = runners.len();
-    while 0 < n {
-        n -= 1;
+    for n in (0..runners.len()).rev() {
         let i = runners[n];
         if i < MAX_TASKS {
             let core = kept_core(recorded[i], available);
@@ -41,19 +38,14 @@ fn keep(recorded: Cores, runners: &[usize], available: u32, cores: &mut [u32], u
     }
 }
 
-// The lowest core that is not used, of those that have a flag: 0 where there is none up to the number available.
+// The lowest core that is not used, of those that have a flag: 0, no core, where there is none up to the number available.
 fn first_unused(used: [bool; USED_FLAGS], available: u32) -> usize
     ensures { result ≡ first_unused (λ core. get_or used core false) 1 (min available max_tasks) }
 {
-    let mut core: usize = 1;
-    while core < USED_FLAGS {
-        if (available as usize) < core {
-            return 0;
-        }
+    for core in 1..=MAX_TASKS.min(available as usize) {
         if !used[core] {
             return core;
         }
-        core += 1;
     }
     0
 }
@@ -66,16 +58,11 @@ pub fn assign(recorded: Cores, runners: &[usize], available: u32) -> Cores
     let mut cores = [0u32; MAX_TASKS];
     let mut used = [false; USED_FLAGS];
     keep(recorded, runners, available, &mut cores, &mut used);
-    let mut n: usize = 0;
-    while n < runners.len() {
-        let i = runners[n];
-        n += 1;
-        if i < MAX_TASKS {
-            if cores[i] == 0 {
-                let core = first_unused(used, available);
-                cores[i] = core as u32;
-                used[core] = true;
-            }
+    for &i in runners {
+        if i < MAX_TASKS && cores[i] == 0 {
+            let core = first_unused(used, available);
+            cores[i] = core as u32;
+            used[core] = true;
         }
     }
     cores

@@ -12,9 +12,7 @@ pub fn cores_sound(recorded: &[u32]) -> bool
     ensures { result ≡ cores_sound recorded.now }
 {
     let mut seen = [false; SEEN_FLAGS];
-    let mut n = recorded.len();
-    while 0 < n {
-        n -= 1;
+    for n in (0..recorded.len()).rev() {
         let core = recorded[n];
         if MAX_CORES < core {
             return false;

@@ -1,4 +1,5 @@
-// EDZL on plain numbers: the definitions stand in specs/, the theory in proofs/. Here is what the code of the tests computes with.
+// EDZL on plain numbers: the definitions stand in specs/, the theory in proofs/. Here is what the code of the tests computes with. `min` and
+// `saturating_sub` promise what the library's methods do, which the code calls itself: they stay so that must-fail/ and mutants/ can try wrong ones.
 #![tactic(auto)]
 
 ghost use Rattle.std.specs.Prelude.{◌≡◌, ◌-◌, min};
@@ -7,14 +8,14 @@ ghost use Rattle.std.specs.Prelude.{◌≡◌, ◌-◌, min};
 pub fn min(a: u32, b: u32) -> u32
     ensures { result ≡ min a b }
 {
-    if a < b { a } else { b }
+    a.min(b)
 }
 
 // What is left of a number when another is taken from it: nothing at least.
 pub fn saturating_sub(number: u32, taken: u32) -> u32
     ensures { result ≡ number - taken }
 {
-    if taken < number { number - taken } else { 0 }
+    number.saturating_sub(taken)
 }
 
 // What a task counts for in its own sum: in a window of its deadline less its slack it interferes by its budget.

@@ -4,6 +4,7 @@
 use Prim.Native.Nat.{ℕ, zero, suc, ◌+◌, ◌-◌, ◌≤◌, ◌<◌}
 use mathlib.Core.Path.{◌≡◌, refl, ap, ◌∙◌}
 use mathlib.Core.Bool.{true, false, ◌&&◌}
+use Rattle.std.specs.Prelude.{Some, None}
 use native.Mathlib.Nat.{sub-zero}
 use native.Mathlib.Omega.{arith}
 use borrow.Author.Tests.{not-true}
@@ -30,7 +31,7 @@ pub record Next (q : Candidates) (i : ℕ) : Type 0 where
 -- The search ends at a task that is next.
 pub record Found (q : Candidates) : Type 0 where
   pub index : ℕ
-  pub number_is : next_runner q ≡ suc index
+  pub index_is : next_runner q ≡ Some index
   pub next : Next q index
 
 -- The tests, what they say, and where the search ends.
@@ -69,13 +70,13 @@ module _ (q : Candidates) where
       let more : q.count - k ≡ suc (q.count - suc k) = omega arith in
       reaches k (omega arith) (down k none) ∙ rw (more, none k (omega arith))
 
-  pub first_next_lem : (k : ℕ) → k < q.count → is_next q k ≡ true → ((j : ℕ) → j < k → is_next q j ≡ false) → next_runner q ≡ suc k
+  pub first_next_lem : (k : ℕ) → k < q.count → is_next q k ≡ true → ((j : ℕ) → j < k → is_next q j ≡ false) → next_runner q ≡ Some k
   unfolding first_next
   first_next_lem k h e before =
       let more : q.count - k ≡ suc (q.count - suc k) = omega arith in
       reaches k (omega arith) before ∙ rw (more, e)
 
-  pub none_next : ((j : ℕ) → j < q.count → is_next q j ≡ false) → next_runner q ≡ 0
+  pub none_next : ((j : ℕ) → j < q.count → is_next q j ≡ false) → next_runner q ≡ None
   unfolding first_next
   none_next none =
       let end : q.count - q.count ≡ 0 = omega arith in
@@ -109,7 +110,7 @@ module _ (q : Candidates) (strict : Strict q) where
         let (j, within, test, before) = first_true (is_next q) i (is_next_lem q i waits first) in
         record {
           index = j;
-          number_is = first_next_lem q j (omega arith) test before;
+          index_is = first_next_lem q j (omega arith) test before;
           next =
               record {
                 inside = omega arith;

@@ -25,7 +25,7 @@ module _ (x : Job) (i : ℕ) (y : Job) (j : ℕ) where
   unfolding longer_first
   longer_first_lem alike same e =
       by_test (ltb y.budget x.budget)
-      (λ p. by_budget alike same (ltb-true _ _ p))
+      (λ p. by_budget alike same (ltb-true y.budget x.budget p))
       (λ p.
       let equal = eqb x.budget y.budget in
       let tie = rw p at e in

@@ -1,10 +1,11 @@
--- The search for the smallest of the ranks, turn by turn. Others cite: `Reached` and `Least`, how far it has come, with the turns `reached_start`,
+-- The search for the smallest of the ranks, turn by turn. Others cite: `Reached` and `Least`, how far it has come, with the turns
 -- `reached_idle`, `reached_waiting`, `least_past_idle`, `least_stays` and `reached_rival`, each by the test that was made; and `least_is_next` and
 -- `none_is_next`, that where it ends is the next runner.
-use Prim.Native.Nat.{ℕ, suc, ◌+◌, ◌≤◌, ◌<◌}
+use Prim.Native.Nat.{ℕ, ◌+◌, ◌≤◌, ◌<◌}
 use mathlib.Core.Path.{◌≡◌}
 use mathlib.Core.Bool.{true, false, and-false}
 use mathlib.Core.List.{List}
+use Rattle.std.specs.Prelude.{Some, None}
 use native.Mathlib.Numerals.{add-one}
 use native.Mathlib.Omega.{arith}
 use lib.ListN.{get_or, length}
@@ -53,9 +54,6 @@ module _ (x i y j : ℕ) where
   rival_not_smaller e = by_order y x (λ h. h) (λ h. not_both (rank_precedes x i y j) (smaller_precedes h) e)
 
 module _ {l : List ℕ} where
-  pub reached_start : Reached l 0
-  reached_start = none_waits (λ j h. omega arith)
-
   -- A task that does not wait is passed.
   pub reached_idle : {i : ℕ} → Reached l i → waits (get_or l i 0) ≡ false → Reached l (i + 1)
   unfolding waits
@@ -110,7 +108,7 @@ module _ (l : List ℕ) where
   unfolding ranked waits
   waits_at i h = lt-ltb _ never h
 
-  pub least_is_next : (i : ℕ) → Least l (length l) i → next_runner (ranked l) ≡ suc i
+  pub least_is_next : (i : ℕ) → Least l (length l) i → next_runner (ranked l) ≡ Some i
   unfolding ranked
   least_is_next i found =
       let waiting = waits_at i found.waits in
@@ -118,7 +116,7 @@ module _ (l : List ℕ) where
       (is_next_lem (ranked l) i waiting (λ j h w. not_preceded (get_or l j 0) j (get_or l i 0) i (found.least j h) (found.first j)))
       (λ j h. preceded_not_next (ranked l) j i found.inside waiting (smaller_precedes _ i _ j (found.first j h)))
 
-  pub none_is_next : Reached l (length l) → next_runner (ranked l) ≡ 0
+  pub none_is_next : Reached l (length l) → next_runner (ranked l) ≡ None
   unfolding ranked waits is_next
   none_is_next (none_waits none) = none_next (ranked l) (λ j h. rw (le-ltb (get_or l j 0) never (none j h)))
   none_is_next (is_least h first) = absurd (omega arith)

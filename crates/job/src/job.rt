@@ -4,7 +4,8 @@ ghost use Rattle.job.specs.Job.{fresh_job, need_in_range, released_job, closed_j
 
 use tasks::task::Task;
 
-// One task's job: whether it is open, the slots to its deadline, the slots still owed, and the slots until the next release is allowed.
+// One task's job: whether it is open, the slots to its deadline, the slots still owed, and the slots until the next release is allowed. A flag and no Option:
+// a machine made by hand may have a closed job with numbers, which is what number 0 is about (document 01).
 #[derive(Clone, Copy)]
 pub struct Job {
     pub open: bool,
@@ -14,6 +15,7 @@ pub struct Job {
 }
 
 // A closed job with all its numbers 0.
+#[tactic(auto, unfolding(crate::specs::Job::fresh_job))]
 pub fn fresh_job() -> Job
     ensures { result ≡ fresh_job }
 {
@@ -26,17 +28,16 @@ pub fn fresh_job() -> Job
 }
 
 // Whether a job of the task may need so many slots: 1 to the task's budget.
+#[tactic(auto, unfolding(crate::specs::Job::need_in_range))]
 pub fn need_in_range(task: Task, need: u32) -> bool
     ensures { result ≡ need_in_range task need }
 {
-    if need < 1 {
-        return false;
-    }
-    need <= task.budget
+    1 <= need && need <= task.budget
 }
 
 impl Job {
     // A job of the task that starts now and needs so many slots.
+    #[tactic(auto, unfolding(crate::specs::Job::released_job))]
     pub fn released(task: Task, need: u32) -> Self
         ensures { result ≡ released_job task need }
     {
@@ -49,25 +50,23 @@ impl Job {
     }
 
     // The job closed, its gap kept.
+    #[tactic(auto, unfolding(crate::specs::Job::closed_job))]
     pub fn closed(self) -> Self
         ensures { result ≡ closed_job self }
     {
-        let gap = self.gap;
         Job {
             open: false,
             left: 0,
             budget: 0,
-            gap,
+            ..self
         }
     }
 
     // Whether the job has no time to spare.
+    #[tactic(auto, unfolding(crate::specs::Job::is_urgent))]
     pub fn is_urgent(self) -> bool
         ensures { result ≡ is_urgent self }
     {
-        if self.open {
-            return self.left <= self.budget;
-        }
-        false
+        self.open && self.left <= self.budget
     }
 }

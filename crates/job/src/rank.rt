@@ -13,11 +13,13 @@ const BUDGET_END: u64 = 4_294_967_296;
 // What a job that is not urgent has more in its rank: more than any urgent one's rank, so that every urgent one goes before it.
 const LATER: u64 = 9_007_199_254_740_992;
 
-// The rank of a task that does not wait, because it is closed or picked. No waiting task has it.
+// The rank of a task that does not wait, because it is closed or picked. No waiting task has it. A number and no Option, so that a search compares one
+// number for each task.
 pub const NEVER: u64 = 18_014_398_509_481_984;
 
 impl Job {
     // Its place among the jobs alike in urgency: smaller left, then larger budget.
+    #[tactic(auto, unfolding(crate::specs::Rank::alike_rank))]
     fn alike_rank(self) -> u64
         ensures { result ≡ alike_rank self }
     {
@@ -25,6 +27,7 @@ impl Job {
     }
 
     // A job's place in precedence as one number: the smaller goes first.
+    #[tactic(auto, unfolding(crate::specs::Rank::rank, crate::specs::Rank::alike_rank))]
     pub fn rank(self) -> u64
         ensures { result ≡ rank self }
     {
@@ -33,18 +36,17 @@ impl Job {
         }
         let alike = self.alike_rank();
         if self.is_urgent() {
-            return alike;
+            alike
+        } else {
+            LATER + alike
         }
-        LATER + alike
     }
 }
 
 // Whether the task of rank x at index i precedes the task of rank y at index j: of equal ranks the lower number goes first.
+#[tactic(auto, unfolding(crate::specs::Rank::rank_precedes))]
 pub fn precedes(x: u64, i: usize, y: u64, j: usize) -> bool
     ensures { result ≡ rank_precedes x i y j }
 {
-    if x == y {
-        return i < j;
-    }
-    x < y
+    x < y || (x == y && i < j)
 }

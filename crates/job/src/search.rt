@@ -6,15 +6,17 @@ ghost use Rattle.job.specs.Rank.{waits, ranked};
 use crate::rank::{NEVER, precedes};
 
 // Whether a task of this rank is open and not picked.
+#[tactic(auto, unfolding(crate::specs::Rank::waits))]
 fn waits(rank: u64) -> bool
     ensures { result ≡ waits rank }
 {
     rank < NEVER
 }
 
-// The number, from 1, of the first open task that no unpicked one precedes, by the ranks of the tasks; 0 where no task waits. Closed and
-// picked tasks are passed over. A rival that precedes the candidate is the next candidate: it precedes all that were tried before.
-pub fn next_runner(ranks: &[u64]) -> usize
+// The index of the first open task that no unpicked one precedes, by the ranks of the tasks; none where no task waits. Closed and picked tasks are
+// passed over. A rival that precedes the candidate is the next candidate: it precedes all that were tried before. Document 01 names this form, labelled
+// loops over candidates and rivals; that over the candidates is no `for`, since it goes on at a rival.
+pub fn next_runner(ranks: &[u64]) -> Option<usize>
     ensures { result ≡ next_runner (ranked ranks.now) }
 {
     let mut candidate: usize = 0;
@@ -23,19 +25,16 @@ pub fn next_runner(ranks: &[u64]) -> usize
             candidate += 1;
             continue 'candidates;
         }
-        let mut rival = candidate + 1;
-        'rivals: while rival < ranks.len() {
+        'rivals: for rival in candidate + 1..ranks.len() {
             if !waits(ranks[rival]) {
-                rival += 1;
                 continue 'rivals;
             }
             if precedes(ranks[rival], rival, ranks[candidate], candidate) {
                 candidate = rival;
                 continue 'candidates;
             }
-            rival += 1;
         }
-        return candidate + 1;
+        return Some(candidate);
     }
-    0
+    None
 }

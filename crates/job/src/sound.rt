@@ -15,28 +15,21 @@ impl Job {
             return false;
         }
         if self.open {
-            if self.gap < self.left {
-                return false;
-            }
-            return self.open_sound(task);
+            self.left <= self.gap && self.open_sound(task)
+        } else {
+            self.closed_sound()
         }
-        self.closed_sound()
     }
 
     // An open job has 1 to D slots left and owes 1 to C.
+    #[tactic(auto, unfolding(crate::specs::Sound::open_sound))]
     fn open_sound(self, task: Task) -> bool
         ensures { result ≡ open_sound task self }
     {
-        if self.left < 1 {
-            return false;
-        }
-        if task.deadline < self.left {
-            return false;
-        }
-        if self.budget < 1 {
-            return false;
-        }
-        self.budget <= task.budget
+        1 <= self.left
+            && self.left <= task.deadline
+            && 1 <= self.budget
+            && self.budget <= task.budget
     }
 
     // A closed one has none of either.
@@ -44,9 +37,6 @@ impl Job {
     fn closed_sound(self) -> bool
         ensures { result ≡ closed_sound self }
     {
-        if self.left != 0 {
-            return false;
-        }
-        self.budget == 0
+        self.left == 0 && self.budget == 0
     }
 }

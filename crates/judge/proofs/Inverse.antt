@@ -1,9 +1,9 @@
 -- Why a part is exact where its whole periods are guessed. The guess is the upper half of the window times the period's inverse: the quotient of the
--- two, or one less. Others cite `guessed` with `Guessed` and `half`, and for the range `product_fits`.
+-- two, or one less. Others cite `guessed` with `Guessed` and `half`.
 use Prim.Native.Nat.{ℕ, suc, ◌+◌, ◌*◌, ◌-◌, ◌/◌, ◌%◌, ◌^◌, ◌≤◌, ◌<◌, min}
 use mathlib.Core.Path.{◌≡◌, sym}
-use native.Mathlib.Nat.{mul-le-mul, mul-le-mul_left, mul_comm, mul_left_comm, le_of_mul-le-mul_left, lt_of_mul-lt-mul_left}
-use native.Mathlib.Nat.{div-add-mod', div-le_self, mod-lt}
+use native.Mathlib.Nat.{mul-le-mul_left, mul_comm, mul_left_comm, le_of_mul-le-mul_left, lt_of_mul-lt-mul_left}
+use native.Mathlib.Nat.{div-add-mod', mod-lt}
 use native.Mathlib.Omega.{arith}
 use Rattle.laws.proofs.CaseSplits.{by_order}
 use Rattle.edzl.specs.Window.{interference}
@@ -21,19 +21,11 @@ pub record Guessed (T C L S g : ℕ) : Type 0 where
   pub budgets : g * C ≤ g * T
   pub part_is : min (g * C + min C (L - g * T) + min C (L - g * T - T)) S ≡ min (interference T C L) S
 
-inverse_fits : (T : ℕ) → inverse_of T < half
-inverse_fits T = omega (arith, div-le_self 4_294_967_295 T)
-
 -- The inverse times the period is below 2^32, by at most the period.
 next_below : (T : ℕ) → 1 ≤ T → (T * inverse_of T < half) × (half ≤ T * inverse_of T + T)
 next_below T t_some = omega (arith, div-add-mod' 4_294_967_295 T, mod-lt 4_294_967_295 t_some, mul_comm (inverse_of T) T)
 
 module _ (T C L : ℕ) (t_some : 1 ≤ T) (c_fits : C ≤ T) (L-fits : L ≤ 1_000_000) where
-  pub product_fits : L * inverse_of T ≤ 1_000_000 * half
-  product_fits =
-      let h : inverse_of T ≤ half = omega (arith, inverse_fits T) in
-      mul-le-mul L-fits h
-
   -- No more whole periods than fit, and at most one too few.
   record Near (g : ℕ) : Type 0 where
     pub low : g * T ≤ L

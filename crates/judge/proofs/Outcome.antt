@@ -4,9 +4,9 @@ use Prim.Native.Nat.{ℕ, ◌≤◌}
 use native.Mathlib.Omega.{arith}
 use mathlib.Core.Path.{◌≡◌, refl}
 use mathlib.Core.Bool.{true, false}
+use Rattle.std.proofs.Common.{Ok}
 use Rattle.laws.proofs.CaseSplits.{not_both}
 use Rattle.tasks.specs.declared.table.Table.{Table}
-use Rattle.tasks.specs.declared.outcome.Outcome.TheVariants as Out
 use Rattle.tasks.specs.Limits.{max_tasks}
 use Rattle.tasks.specs.Check.{checked}
 use Rattle.tasks.proofs.Checked.{passes}
@@ -18,15 +18,15 @@ use Rattle.judge.specs.Judge.{refused_values, judged_after, judged}
 
 -- an admitted table can be judged and passes the window test
 pub record Admits (t : Table) (m : ℕ) : Type 0 where
-  pub checks : checked t m ≡ Out.Done
+  pub checks : checked t m ≡ Ok tt
   pub admits : admitted (tasks_of t) m ≡ true
 
 module _ (t : Table) (m : ℕ) where
   pub judged_outcome : (judged t m).outcome ≡ checked t m
   unfolding judged judged_after refused_values
-  judged_outcome = by_outcome (checked t m) (λ e. rw e) (λ number place e. rw e)
+  judged_outcome = by_outcome (checked t m) (λ e. rw e) (λ why e. rw e)
 
-  pub judged_is : checked t m ≡ Out.Done → judged t m ≡ judged_after Out.Done t m
+  pub judged_is : checked t m ≡ Ok tt → judged t m ≡ judged_after (Ok tt) t m
   unfolding judged
   judged_is e = rw e
 
@@ -36,11 +36,11 @@ module _ (t : Table) (m : ℕ) where
   count_small =
       by_outcome (checked t m)
       (λ e. rw e (omega (arith, (passes t m e).count_fits, count_bound (λ k. may_turn_urgent (tasks_of t) no_slack m k) t.count)))
-      (λ number place e. rw e (omega arith))
+      (λ why e. rw e (omega arith))
 
   pub admits_means : (judged t m).admits ≡ true → Admits t m
   unfolding judged judged_after refused_values
   admits_means h =
       by_outcome (checked t m)
       (λ e. record { checks = e; admits = rw e at h })
-      (λ number place e. not_both false (rw e at h) refl)
+      (λ why e. not_both false (rw e at h) refl)

@@ -12,11 +12,11 @@ use borrow.Author.Tests.{eq-eqb, ne_eqb}
 use Rattle.edzl.specs.TaskSet.{TaskSet}
 use Rattle.laws.specs.Sums.{sum_to, bit}
 use Rattle.edzl.specs.Window.{spare, no_slack, window_sum}
-use Rattle.edzl.specs.Slack.{new_slack, none_changes, rounds_from, all_rounds}
+use Rattle.edzl.specs.Slack.{none_changes, rounds_from, all_rounds}
 use Rattle.edzl.proofs.WellFormed.{WellFormed}
 use Rattle.laws.proofs.SumLaws.{sum_same}
 use Rattle.edzl.proofs.SlackRounds.{round_after, slack_after, sum_next, slack_next, slacks_fit, made_is, round_one, slack_start}
-use Rattle.judge.specs.Parts.{part_of, own_part, SumsWithOwn, LastSumsWithOwn}
+use Rattle.judge.specs.Parts.{part_of, own_at, slack_at, SumsWithOwn, LastSumsWithOwn}
 use Rattle.judge.proofs.OwnPart.{sum_with_own}
 
 -- After round r + 1: the slacks before it are those of round r, the sums are those of the round, each with the own part, and the slacks are the round's; the
@@ -30,9 +30,7 @@ pub record AtRound (tasks : TaskSet) (m r : ℕ) (before sums slacks : List ℕ)
 -- What the code computes in a round from the slacks `old`: the sums, the slacks, and how many of them changed.
 pub record Computed (tasks : TaskSet) (m : ℕ) (slack : ℕ → ℕ) (old sums slacks : List ℕ) (changed : ℕ) : Type 0 where
   pub sums_are : SumsWithOwn tasks slack sums
-  pub slacks_are : (k : ℕ) → k < tasks.count →
-      get_or slacks k 0
-      ≡ new_slack m (tasks.deadline k - tasks.budget k) (get_or sums k 0 - own_part (tasks.budget k) (tasks.deadline k))
+  pub slacks_are : (k : ℕ) → k < tasks.count → get_or slacks k 0 ≡ slack_at tasks m sums k
   pub changed_is : changed ≡ sum_to tasks.count (λ k. bit (not (eqb (get_or old k 0) (get_or slacks k 0))))
 
 module _ (tasks : TaskSet) (m : ℕ) where
@@ -43,7 +41,7 @@ module _ (tasks : TaskSet) (m : ℕ) where
         slacks_next : (k : ℕ) → k < tasks.count → get_or slacks k 0 ≡ slack_after tasks m (suc r) k
         unfolding spare
         slacks_next k h =
-            let e : get_or sums k 0 - own_part (tasks.budget k) (tasks.deadline k) ≡ window_sum tasks (slack_after tasks m r) k =
+            let e : get_or sums k 0 - own_at tasks k ≡ window_sum tasks (slack_after tasks m r) k =
             omega (arith, computed.sums_are k h)
             in
             computed.slacks_are k h ∙ rw e (sym (slack_next tasks m r k h))
@@ -79,7 +77,7 @@ module _ (tasks : TaskSet) (m : ℕ) where
       (k : ℕ) →
       k < tasks.count →
       sum_to tasks.count (part_of tasks (λ i. get_or slacks i 0) k)
-      ≡ window_sum tasks (slack_after tasks m r) k + own_part (tasks.budget k) (tasks.deadline k)
+      ≡ window_sum tasks (slack_after tasks m r) k + own_at tasks k
   next_sum well r slacks slacks_are k h =
       sum_same _ _ tasks.count (λ i l. rw (slacks_are i l))
       ∙ sum_with_own tasks well (slack_after tasks m r) k h (slacks_fit tasks m r k h)
@@ -109,5 +107,5 @@ module _ (tasks : TaskSet) (m : ℕ) where
     last_held end =
         let e = ended end in (
           rw e (sym (made_is tasks m (suc r))),
-          λ k h. held.sums_are k h ∙ rw e (ap (λ (n : ℕ). n + own_part (tasks.budget k) (tasks.deadline k)) (sym (sum_next tasks m r k h))),
+          λ k h. held.sums_are k h ∙ rw e (ap (λ (n : ℕ). n + own_at tasks k) (sym (sum_next tasks m r k h))),
         )

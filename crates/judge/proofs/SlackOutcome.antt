@@ -4,7 +4,7 @@ use Prim.Native.Nat.{ℕ, ◌≤◌}
 use native.Mathlib.Omega.{arith}
 use mathlib.Core.Path.{◌≡◌}
 use Rattle.tasks.specs.declared.table.Table.{Table}
-use Rattle.tasks.specs.declared.outcome.Outcome.TheVariants.{Done}
+use Rattle.std.proofs.Common.{Ok}
 use Rattle.tasks.specs.Check.{checked}
 use Rattle.tasks.specs.TaskSet.{tasks_of}
 use Rattle.tasks.proofs.OutcomeLaws.{by_outcome}
@@ -15,9 +15,9 @@ use Rattle.judge.specs.SlackJudge.{refused_by_slack, slack_judged_after, slack_j
 module _ (t : Table) (m : ℕ) where
   pub slack_outcome : (slack_judged t m).outcome ≡ checked t m
   unfolding slack_judged slack_judged_after refused_by_slack
-  slack_outcome = by_outcome (checked t m) (λ e. rw e) (λ number place e. rw e)
+  slack_outcome = by_outcome (checked t m) (λ e. rw e) (λ why e. rw e)
 
-  pub slack_judged_is : checked t m ≡ Done → slack_judged t m ≡ slack_judged_after Done t m
+  pub slack_judged_is : checked t m ≡ Ok tt → slack_judged t m ≡ slack_judged_after (Ok tt) t m
   unfolding slack_judged
   slack_judged_is e = rw e
 
@@ -27,4 +27,4 @@ module _ (t : Table) (m : ℕ) where
   -- at most 64 rounds are made
   pub rounds_small : (slack_judged t m).rounds ≤ 64
   unfolding slack_judged slack_judged_after refused_by_slack
-  rounds_small = by_outcome (checked t m) (λ e. rw e made_small) (λ number place e. rw e (omega arith))
+  rounds_small = by_outcome (checked t m) (λ e. rw e made_small) (λ why e. rw e (omega arith))

@@ -9,7 +9,7 @@ use Rattle.edzl.specs.Slack.{slack_admits}
 use Rattle.edzl.proofs.CheaperLaws.{count_no_larger, window_stays}
 use Rattle.edzl.proofs.SlackStays.{slack_no_smaller, reaching_no_larger, slack_stays}
 use Rattle.tasks.specs.declared.table.Table.{Table}
-use Rattle.tasks.specs.declared.outcome.Outcome.TheVariants as Out
+use Rattle.std.proofs.Common.{Ok}
 use Rattle.tasks.specs.Check.{checked}
 use Rattle.tasks.specs.Cheaper.{Cheaper}
 use Rattle.tasks.specs.TaskSet.{first_tasks, tasks_of}
@@ -23,11 +23,11 @@ use Rattle.judge.proofs.Outcome.{judged_outcome, judged_is, admits_means}
 use Rattle.judge.proofs.SlackOutcome.{slack_outcome, slack_judged_is}
 use Rattle.judge.proofs.Admitted.{admission_means}
 
-module _ (t : Table) (m : ℕ) (t' : Table) (m' : ℕ) (c : Cheaper t m t' m') (judges : checked t m ≡ Out.Done) where
+module _ (t : Table) (m : ℕ) (t' : Table) (m' : ℕ) (c : Cheaper t m t' m') (judges : checked t m ≡ Ok tt) where
   well : WellFormed (tasks_of t)
   well = well_checked t m judges
 
-  judges_too : checked t' m' ≡ Out.Done
+  judges_too : checked t' m' ≡ Ok tt
   judges_too = cheaper_checked t m t' m' c judges
 
   window_count : (judged t' m').count ≤ (judged t m).count
@@ -44,7 +44,7 @@ module _ (t : Table) (m : ℕ) (t' : Table) (m' : ℕ) (c : Cheaper t m t' m') (
   unfolding slack_judged_after
   slack_admits_lem e = rw (slack_judged_is t' m' judges_too) (slack_stays (tasks_of t) (tasks_of t') well c.tasks m m' c.cores_no_fewer e)
 
-module _ (admits : Table → ℕ → Bool) (judges : (t : Table) (m : ℕ) → admits t m ≡ true → checked t m ≡ Out.Done) where
+module _ (admits : Table → ℕ → Bool) (judges : (t : Table) (m : ℕ) → admits t m ≡ true → checked t m ≡ Ok tt) where
   -- after each sentence a table is cheaper, whichever the test
   with_trims : ((t : Table) (m : ℕ) → admits t m ≡ true → (t' : Table) (m' : ℕ) → Cheaper t m t' m' → admits t' m' ≡ true) → StaysAdmitted admits
   unfolding StaysAdmitted

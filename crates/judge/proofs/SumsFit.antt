@@ -7,7 +7,7 @@ use native.Mathlib.Omega.{arith}
 use mathlib.Core.Path.{◌≡◌}
 use lib.ListN.{get_or}
 use Rattle.tasks.specs.declared.table.Table.{Table}
-use Rattle.tasks.specs.declared.outcome.Outcome.TheVariants.{Done}
+use Rattle.std.proofs.Common.{Ok}
 use Rattle.tasks.specs.Limits.{max_tasks, max_cores, max_period}
 use Rattle.tasks.specs.Table.{zero_task}
 use Rattle.tasks.specs.Check.{checked}
@@ -21,7 +21,7 @@ use Rattle.edzl.proofs.InterferenceLaws.{at_most}
 use Rattle.laws.proofs.SumLaws.{sum_bound, others_bound}
 use Rattle.edzl.proofs.SlackLaws.{new_fits}
 
-module _ (t : Table) (m : ℕ) (judges : checked t m ≡ Done) where
+module _ (t : Table) (m : ℕ) (judges : checked t m ≡ Ok tt) where
   -- The numbers of a task.
   range : (i : ℕ) → i < t.count → Range (get_or t.tasks i zero_task)
   range i h = range_of (get_or t.tasks i zero_task) ((passes t m judges).tasks_fit i h)

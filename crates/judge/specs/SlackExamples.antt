@@ -1,12 +1,11 @@
 -- Examples of document 02's change 6 on tables, as entries of a list of computed tests: `all_true` of crate laws is the test, and the theorem stands in
 -- proofs/SlackExamplesHold.antt. Tasks are written T, C, D.
-use Rattle.std.specs.Prelude.{ℕ, Bool, true, false, not, ◌&&◌, List, [], ◌∷◌, eqb, set}
+use Rattle.std.specs.Prelude.{ℕ, Bool, true, false, not, ◌&&◌, List, [], ◌∷◌, eqb, set, Ok, Err}
 use Rattle.std.specs.Bool.{beq}
 use Rattle.tasks.specs.declared.task.Task.{Task}
 use Rattle.tasks.specs.declared.table.Table.{Table}
-use Rattle.tasks.specs.declared.outcome.Outcome.{Outcome}
-use Rattle.tasks.specs.declared.outcome.Outcome.TheVariants.{Done, Refused}
-use Rattle.tasks.specs.Outcome.{is_done}
+use Rattle.tasks.specs.Outcome.{Outcome, is_done}
+use Rattle.tasks.specs.Refusals.{number_of}
 use Rattle.tasks.specs.Table.{empty_table}
 use Rattle.tasks.specs.Written.{task, table_of}
 use Rattle.judge.specs.SlackJudge.{slack_judged}
@@ -23,8 +22,8 @@ slack_is tasks cores rounds admits = slack_on (table_of tasks) cores rounds admi
 
 -- an outcome is the refusal of this number and place
 unfoldable pub is_refusal : Outcome → (number place : ℕ) → Bool
-is_refusal Done number place = false
-is_refusal (Refused other at_place) number place = eqb other number && eqb at_place place
+is_refusal (Ok _) number place = false
+is_refusal (Err why) number place = eqb (number_of why.reason) number && eqb why.place place
 
 -- the slack test is refused with this number and place, 0 rounds and no admission
 unfoldable pub refused_is : Table → (cores number place : ℕ) → Bool

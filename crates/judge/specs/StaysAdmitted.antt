@@ -1,9 +1,8 @@
 -- "Cheaper tables stay sold": document 02, change 8, as statements about verdicts. Document 02 asks them of the window test; that they are stated of the
 -- slack test too is our decision, since the contract line goes by that one.
-use Rattle.std.specs.Prelude.{ℕ, ◌≤◌, ◌<◌, ◌≡◌, Bool, true}
+use Rattle.std.specs.Prelude.{ℕ, ◌≤◌, ◌<◌, ◌≡◌, Bool, true, Ok}
 use Rattle.edzl.specs.Slack.{all_rounds, slack_of_round, count_reaching}
 use Rattle.tasks.specs.declared.table.Table.{Table}
-use Rattle.tasks.specs.declared.outcome.Outcome.TheVariants.{Done}
 use Rattle.tasks.specs.TaskSet.{tasks_of}
 use Rattle.tasks.specs.Cheaper.{Cheaper}
 use Rattle.tasks.specs.Trimmed.{AfterTrims}
@@ -30,20 +29,20 @@ pub record EachStaysAdmitted : Type 0 where
 -- beside it, of a table t' on m' cores that is cheaper than a table t that is judged on m cores, admitted or not: it is judged, not refused, and by the
 -- window test COUNT is no larger
 pub record WindowKept (t : Table) (m : ℕ) (t' : Table) (m' : ℕ) : Type 0 where
-  pub is_judged : (judged t' m').outcome ≡ Done
+  pub is_judged : (judged t' m').outcome ≡ Ok tt
   pub count_no_larger : (judged t' m').count ≤ (judged t m).count
 
 unfoldable pub WindowKeeps : Type 0
-WindowKeeps = (t : Table) (m : ℕ) (t' : Table) (m' : ℕ) → (judged t m).outcome ≡ Done → Cheaper t m t' m' → WindowKept t m t' m'
+WindowKeeps = (t : Table) (m : ℕ) (t' : Table) (m' : ℕ) → (judged t m).outcome ≡ Ok tt → Cheaper t m t' m' → WindowKept t m t' m'
 
 -- by the slack test it is judged too, no slack of a remaining task is smaller in any round, where `was` tells which task of t each was, and no more sums
 -- of the last round reach
 pub record SlackKept (t : Table) (m : ℕ) (t' : Table) (m' : ℕ) (was : ℕ → ℕ) : Type 0 where
-  pub is_judged : (slack_judged t' m').outcome ≡ Done
+  pub is_judged : (slack_judged t' m').outcome ≡ Ok tt
   pub slack_no_smaller : (r i : ℕ) → i < t'.count → slack_of_round (tasks_of t) m r (was i) ≤ slack_of_round (tasks_of t') m' r i
   pub reaching_no_larger :
       count_reaching (tasks_of t') m' (all_rounds (tasks_of t') m').sums ≤ count_reaching (tasks_of t) m (all_rounds (tasks_of t) m).sums
 
 unfoldable pub SlackKeeps : Type 0
 SlackKeeps =
-    (t : Table) (m : ℕ) (t' : Table) (m' : ℕ) → (slack_judged t m).outcome ≡ Done → (c : Cheaper t m t' m') → SlackKept t m t' m' c.tasks.was
+    (t : Table) (m : ℕ) (t' : Table) (m' : ℕ) → (slack_judged t m).outcome ≡ Ok tt → (c : Cheaper t m t' m') → SlackKept t m t' m' c.tasks.was

@@ -3,7 +3,7 @@
 
 use crate::urgent::count_urgent;
 use tasks::check::check;
-use tasks::outcome::Outcome;
+use tasks::refusals::Refusal;
 use tasks::table::Table;
 
 pub mod admission;
@@ -17,66 +17,22 @@ mod urgent;
 ghost use Rattle.std.specs.Prelude.{◌≡◌};
 ghost use Rattle.judge.specs.Judge.{values_of, judged};
 
-// COUNT and whether the table is admitted, or the refusal's number and place.
-#[derive(Clone, Copy)]
-pub enum Verdict {
-    Judged { count: u32, admitted: bool },
-    Refused { number: u32, place: u32 },
+// COUNT, and whether the table is admitted.
+#[derive(Clone, Copy, PartialEq, Eq)]
+pub struct Verdict {
+    pub count: u32,
+    pub admitted: bool,
 }
 
-impl Verdict {
-    // Whether judging was carried out, or the refusal's number and place.
-    pub fn outcome(self) -> Outcome
-        ensures { result ≡ (values_of self).outcome }
-    {
-        match self {
-            Verdict::Judged {
-                count: _,
-                admitted: _,
-            } => Outcome::Done,
-            Verdict::Refused { number, place } => Outcome::Refused { number, place },
-        }
-    }
-
-    // COUNT: 0 where judging was refused.
-    pub fn count(self) -> u32
-        ensures { result ≡ (values_of self).count }
-    {
-        match self {
-            Verdict::Judged { count, admitted: _ } => count,
-            Verdict::Refused {
-                number: _,
-                place: _,
-            } => 0,
-        }
-    }
-
-    // Whether the table is admitted: not where judging was refused.
-    pub fn admits(self) -> bool
-        ensures { result ≡ (values_of self).admits }
-    {
-        match self {
-            Verdict::Judged { count: _, admitted } => admitted,
-            Verdict::Refused {
-                number: _,
-                place: _,
-            } => false,
-        }
-    }
-}
-
-// The verdict on a table and a number of cores.
-pub fn judge(table: Table, cores: u32) -> Verdict
+// The verdict on a table and a number of cores, or why there is none.
+#[tactic(auto, unfolding(crate::specs::Judge::judged, crate::specs::Judge::judged_after, crate::specs::Judge::values_of, tasks::specs::TaskSet::tasks_of, edzl::specs::Window::admitted))]
+pub fn judge(table: Table, cores: u32) -> Result<Verdict, Refusal>
     ensures { values_of result ≡ judged table cores }
 {
-    let outcome = check(table, cores);
-    if let Outcome::Refused { number, place } = outcome {
-        return Verdict::Refused { number, place };
-    }
-    let tasks = table.tasks;
-    let count = count_urgent(tasks, table.count, cores);
-    Verdict::Judged {
+    check(table, cores)?;
+    let count = count_urgent(&table, cores);
+    Ok(Verdict {
         count,
         admitted: count <= cores,
-    }
+    })
 }

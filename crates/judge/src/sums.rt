@@ -1,180 +1,128 @@
 // The sums of the window test, and of a round from those of the round before, of all tasks at once. Each counts the task
 // itself too: the tests allow for that.
-ghost use Rattle.std.specs.Prelude.{ℕ, ◌+◌, ◌-◌, ◌*◌, ◌≤◌, ◌<◌, ◌≡◌, length, get_or};
-ghost use Rattle.tasks.specs.Limits.{max_tasks, max_period};
-ghost use Rattle.edzl.specs.Window.{no_slack};
-ghost use Rattle.laws.specs.Sums.{sum_to};
-ghost use Rattle.judge.specs.Listed.{listed, Ranges, inverse_of};
-ghost use Rattle.judge.specs.Parts.{part, part_of, spare_at, SumsWithOwn};
+ghost use Rattle.std.specs.Prelude.{◌≤◌, ◌≡◌};
+ghost use Rattle.tasks.specs.Limits.{max_period};
+ghost use Rattle.judge.specs.Listed.{inverse_of};
+ghost use Rattle.judge.specs.Parts.{part};
 
-use crate::few::{FEW_TASKS, sums_anew};
-use edzl::{min, saturating_sub};
+use crate::few::FEW_TASKS;
+use crate::numbers::Numbers;
 use tasks::limits::MAX_TASKS;
 use tasks::table::PerTask;
 
-// The inverse of a period: a window times it, without the lower 32 bits, is the window's quotient by the period or one less. One
-// division here spares one for every window.
-fn inverse_of(period: u32) -> u32
-    requires { 1 ≤ period }
-    ensures { result ≡ inverse_of period }
-{
-    4_294_967_295 / period
-}
-
-// What a task counts for in the sum of one with this window and this spare. The guess of the whole periods may be one too low: then
-// what is left has one more in it.
-fn part_of(period: u32, budget: u32, inverse: u32, window: u32, spare: u32) -> u32
-    requires le_period { (1 ≤ period) × (period ≤ max_period) × (budget ≤ period) × (window ≤ max_period) }
-    requires inverse_value { inverse ≡ inverse_of period }
-    ensures { result ≡ part period budget window spare }
-{
-    let guess = (window as u64 * inverse as u64 >> 32) as u32;
-    let left = window - guess * period;
-    let more = saturating_sub(left, period);
-    let interference = guess * budget + min(budget, left) + min(budget, more);
-    min(interference, spare)
-}
-
-// Adds to each of the first `count` sums what one task counts for in it.
-fn add_parts(
+// A task as it counts in the sums of others. A window times the inverse of its period, without the lower 32 bits, is the window's quotient
+// by the period or one less: so one division spares one for every window.
+#[derive(Clone, Copy)]
+struct Interfering {
     period: u32,
     budget: u32,
-    budgets: &PerTask,
-    deadlines: &PerTask,
-    sums: &mut PerTask,
-    count: usize,
-)
-    requires le_period { (1 ≤ period) × (period ≤ max_period) × (budget ≤ period) }
-    requires count_le_max_tasks { (count ≤ max_tasks) × (length sums.old ≡ max_tasks) }
-    requires by_index { (k : ℕ) → k < count → get_or budgets.now k 0 ≤ get_or deadlines.now k 0 }
-    requires by_index_2 { (k : ℕ) → k < count → get_or deadlines.now k 0 ≤ max_period }
-    requires by_index_3 { (k : ℕ) → k < count → get_or sums.old k 0 ≤ max_tasks * max_period }
-    ensures sums_len { length sums.new ≡ max_tasks }
-    ensures by_index_4 { (k : ℕ) → k < count →
-        get_or sums.new k 0
-        ≡ get_or sums.old k 0
-        + part period budget (get_or deadlines.now k 0) (spare_at budgets.now deadlines.now k) }
-{
-    let inverse = inverse_of(period);
-    let mut k: usize = 0;
-    while k < count {
-        let window = deadlines[k];
-        let spare = window - budgets[k];
-        sums[k] = sums[k] + part_of(period, budget, inverse, window, spare);
-        k += 1;
+    inverse: u32,
+    ghost period_some: { 1 ≤ period },
+    ghost period_fits: { period ≤ max_period },
+    ghost budget_fits: { budget ≤ period },
+    ghost inverse_is: { inverse ≡ inverse_of period },
+}
+
+impl Interfering {
+    // What the task counts for in the sum of one with this window and this spare. The guess of the whole periods may be one too low:
+    // then what is left has one more in it.
+    fn part(self, window: u32, spare: u32) -> u32
+        requires { window ≤ max_period }
+        ensures { result ≡ part self.period self.budget window spare }
+    {
+        let guess = (window as u64 * self.inverse as u64 >> 32) as u32;
+        let left = window - guess * self.period;
+        let more = left.saturating_sub(self.period);
+        let interference = guess * self.budget + self.budget.min(left) + self.budget.min(more);
+        interference.min(spare)
     }
 }
 
-// The sums of the window test, which are those of round 1: over all of the first `count` tasks. They are 0 at first.
-pub(crate) fn window_sums<'a>(
-    periods: &'a PerTask,
-    budgets: &'a PerTask,
-    deadlines: &'a PerTask,
-    sums: &mut PerTask,
-    count: usize,
-)
-    requires count_le_max_tasks { (count ≤ max_tasks) × (length sums.old ≡ max_tasks) }
-    requires ranges { Ranges count periods.now budgets.now deadlines.now }
-    requires by_index { (k : ℕ) → k < count → get_or sums.old k 0 ≡ 0 }
-    ensures sums_len { length sums.new ≡ max_tasks }
-    ensures sums_with_own { SumsWithOwn (listed periods.now budgets.now deadlines.now count) no_slack sums.new }
-{
-    if count <= FEW_TASKS {
-        let none = [0u32; MAX_TASKS];
-        sums_anew(periods, budgets, deadlines, &none, sums, count);
-        return;
-    }
-    let mut i: usize = 0;
-    while i < count {
-        add_parts(periods[i], budgets[i], budgets, deadlines, sums, count);
-        i += 1;
-    }
-}
+impl<'a> Numbers<'a> {
+    ghost use Rattle.std.specs.Prelude.{ℕ, ◌+◌, ◌-◌, ◌*◌, ◌<◌, get_or};
+    ghost use Rattle.tasks.specs.Limits.{max_tasks};
+    ghost use Rattle.laws.specs.Sums.{sum_to};
+    ghost use Rattle.edzl.specs.Window.{no_slack};
+    ghost use Rattle.judge.specs.Numbers.{set_of};
+    ghost use Rattle.judge.specs.Parts.{part_of, part_with, spare_at, SumsWithOwn};
 
-// Puts into each of the first `count` sums what one task counts for with its new slack, in place of that with the slack
-// before.
-fn move_parts(
-    period: u32,
-    budget: u32,
-    before: u32,
-    slack: u32,
-    budgets: &PerTask,
-    deadlines: &PerTask,
-    sums: &mut PerTask,
-    count: usize,
-)
-    requires le_period { (1 ≤ period) × (period ≤ max_period) × (budget ≤ period) }
-    requires count_le_max_tasks { (count ≤ max_tasks) × (length sums.old ≡ max_tasks) }
-    requires by_index { (k : ℕ) → k < count → get_or budgets.now k 0 ≤ get_or deadlines.now k 0 }
-    requires by_index_2 { (k : ℕ) → k < count → get_or deadlines.now k 0 ≤ max_period }
-    requires by_index_3 { (k : ℕ) → k < count →
-        (part period budget (get_or deadlines.now k 0 - before) (spare_at budgets.now deadlines.now k) ≤ get_or sums.old k 0)
-        × (get_or sums.old k 0 ≤ max_tasks * max_period) }
-    ensures sums_len { length sums.new ≡ max_tasks }
-    ensures by_index_4 { (k : ℕ) → k < count →
-        get_or sums.new k 0
-        ≡ get_or sums.old k 0
-        - part period budget (get_or deadlines.now k 0 - before) (spare_at budgets.now deadlines.now k)
-        + part period budget (get_or deadlines.now k 0 - slack) (spare_at budgets.now deadlines.now k) }
-{
-    let inverse = inverse_of(period);
-    let mut k: usize = 0;
-    while k < count {
-        let deadline = deadlines[k];
-        let spare = deadline - budgets[k];
-        let old = part_of(
+    // Task i, with the inverse of its period.
+    fn interfering(&self, i: usize) -> Interfering
+        requires { i < self.now.count }
+        ensures period { result.period ≡ get_or self.now.periods.now i 0 }
+        ensures budget { result.budget ≡ get_or self.now.budgets.now i 0 }
+    {
+        let period = self.periods[i];
+        Interfering {
             period,
-            budget,
-            inverse,
-            saturating_sub(deadline, before),
-            spare,
-        );
-        let new = part_of(
-            period,
-            budget,
-            inverse,
-            saturating_sub(deadline, slack),
-            spare,
-        );
-        sums[k] = sums[k] - old + new;
-        k += 1;
-    }
-}
-
-// The sums of the next round: those with the slacks before become those with the new slacks. Only tasks whose slack
-// changed count for something else.
-pub(crate) fn next_sums<'a>(
-    periods: &'a PerTask,
-    budgets: &'a PerTask,
-    deadlines: &'a PerTask,
-    before: &'a PerTask,
-    slacks: &'a PerTask,
-    sums: &mut PerTask,
-    count: usize,
-)
-    requires count_le_max_tasks { (count ≤ max_tasks) × (length sums.old ≡ max_tasks) }
-    requires ranges { Ranges count periods.now budgets.now deadlines.now }
-    requires by_index { (k : ℕ) → k < count →
-        get_or sums.old k 0
-        ≡ sum_to count (part_of (listed periods.now budgets.now deadlines.now count) (λ i. get_or before.now i 0) k) }
-    requires by_index_2 { (k : ℕ) → k < count → get_or slacks.now k 0 ≤ spare_at budgets.now deadlines.now k }
-    ensures sums_len { length sums.new ≡ max_tasks }
-    ensures by_index_3 { (k : ℕ) → k < count →
-        get_or sums.new k 0
-        ≡ sum_to count
-        (part_of (listed periods.now budgets.now deadlines.now count) (λ i. get_or slacks.now i 0) k) }
-{
-    if count <= FEW_TASKS {
-        sums_anew(periods, budgets, deadlines, slacks, sums, count);
-        return;
-    }
-    let mut i: usize = 0;
-    while i < count {
-        if before[i] != slacks[i] {
-            move_parts(
-                periods[i], budgets[i], before[i], slacks[i], budgets, deadlines, sums, count,
-            );
+            budget: self.budgets[i],
+            inverse: 4_294_967_295 / period,
         }
-        i += 1;
+    }
+
+    // Adds to each sum what task i counts for in it.
+    fn add_parts(&self, i: usize, sums: &mut PerTask)
+        requires in_table { i < self.now.count }
+        requires small { (k : ℕ) → k < self.now.count → get_or sums.old k 0 ≤ max_tasks * max_period }
+        ensures { (k : ℕ) → k < self.now.count → get_or sums.new k 0 ≡ get_or sums.old k 0 + part_with (set_of self.now) i 0 k }
+    {
+        let task = self.interfering(i);
+        for k in 0..self.count {
+            let window = self.deadlines[k];
+            let spare = window - self.budgets[k];
+            sums[k] += task.part(window, spare);
+        }
+    }
+
+    // The sums of the window test, which are those of round 1: over all tasks. They are 0 at first.
+    pub(crate) fn window_sums(&self, sums: &mut PerTask)
+        requires { (k : ℕ) → k < self.now.count → get_or sums.old k 0 ≡ 0 }
+        ensures { SumsWithOwn (set_of self.now) no_slack sums.new }
+    {
+        if self.count <= FEW_TASKS {
+            self.sums_anew(&[0; MAX_TASKS], sums);
+            return;
+        }
+        for i in 0..self.count {
+            self.add_parts(i, sums);
+        }
+    }
+
+    // Puts into each sum what task i counts for with its new slack, in place of that with the slack before.
+    fn move_parts(&self, i: usize, before: u32, slack: u32, sums: &mut PerTask)
+        requires in_table { i < self.now.count }
+        requires part_within { (k : ℕ) → k < self.now.count → part_with (set_of self.now) i before k ≤ get_or sums.old k 0 }
+        requires small { (k : ℕ) → k < self.now.count → get_or sums.old k 0 ≤ max_tasks * max_period }
+        ensures { (k : ℕ) → k < self.now.count →
+            get_or sums.new k 0 ≡ get_or sums.old k 0 - part_with (set_of self.now) i before k + part_with (set_of self.now) i slack k }
+    {
+        let task = self.interfering(i);
+        for k in 0..self.count {
+            let deadline = self.deadlines[k];
+            let spare = deadline - self.budgets[k];
+            let old = task.part(deadline.saturating_sub(before), spare);
+            let new = task.part(deadline.saturating_sub(slack), spare);
+            sums[k] = sums[k] - old + new;
+        }
+    }
+
+    // The sums of the next round: those with the slacks before become those with the new slacks. Only tasks whose slack
+    // changed count for something else.
+    pub(crate) fn next_sums(&self, before: &PerTask, slacks: &PerTask, sums: &mut PerTask)
+        requires sums_before { (k : ℕ) → k < self.now.count →
+            get_or sums.old k 0 ≡ sum_to self.now.count (part_of (set_of self.now) (λ i. get_or before.now i 0) k) }
+        requires slacks_fit { (k : ℕ) → k < self.now.count → get_or slacks.now k 0 ≤ spare_at (set_of self.now) k }
+        ensures { (k : ℕ) → k < self.now.count →
+            get_or sums.new k 0 ≡ sum_to self.now.count (part_of (set_of self.now) (λ i. get_or slacks.now i 0) k) }
+    {
+        if self.count <= FEW_TASKS {
+            self.sums_anew(slacks, sums);
+            return;
+        }
+        for i in 0..self.count {
+            if before[i] != slacks[i] {
+                self.move_parts(i, before[i], slacks[i], sums);
+            }
+        }
     }
 }

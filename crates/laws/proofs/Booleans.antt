@@ -1,7 +1,6 @@
 -- Laws of Booleans that mathlib lacks.
-use mathlib.Core.Path.{◌≡◌, refl, sym, ◌∙◌}
-use mathlib.Core.Bool.{Bool, true, false, cond, not, ◌&&◌}
-use borrow.Author.Tests.{not-true, not-false}
+use mathlib.Core.Path.{◌≡◌, refl, sym}
+use mathlib.Core.Bool.{Bool, true, false, cond, ◌&&◌}
 use mir.Val.{bool_byte}
 use Rattle.laws.proofs.CaseSplits.{not_both}
 
@@ -23,10 +22,3 @@ both_ways false false f g = refl
 pub bool_byte_lem : (b : Bool) → bool_byte b ≡ cond b 1 0
 bool_byte_lem true = refl
 bool_byte_lem false = refl
-
--- what a test of a call's result says of what the call ensures: past `if !result` it was true, and inside it was false
-pub was_true : {result is : Bool} → result ≡ is → not result ≡ false → is ≡ true
-was_true e left = sym e ∙ not-false _ left
-
-pub was_false : {result is : Bool} → result ≡ is → not result ≡ true → is ≡ false
-was_false e taken = sym e ∙ not-true _ taken

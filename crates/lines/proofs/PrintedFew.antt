@@ -1,20 +1,21 @@
--- What is printed has room. Others cite `printed_held_lem`: an array with room for it holds all of it; and `lines_few`, how many bytes lines have of which each has few.
+-- What is printed has room. Others cite `printed_held`: an output with room for it holds all of it; and `lines_few`, how many bytes lines have of which each has few.
 use Prim.Native.Nat.{ℕ, zero, suc, ◌*◌, ◌≤◌, ◌<◌, min}
 use native.Mathlib.Omega.{arith}
-use mathlib.Core.Path.{refl}
 use mathlib.Core.Bool.{Bool, true, false, cond}
+use mathlib.Core.Path.{◌≡◌}
 use mathlib.Core.List.{List, [], ◌∷◌}
 use lib.ListN.{length, length-append}
-use Rattle.text.specs.Output.{Put, Holds, further_numbers, numbers_line, refused_line}
+use Rattle.text.specs.declared.output.Output.{Output}
+use Rattle.text.specs.Output.{fresh, put, Holds, further_numbers, numbers_line, refused_line}
 use Rattle.text.proofs.DigitLaws.{text_few}
 use Rattle.text.proofs.Putting.{put_all}
 use Rattle.tasks.specs.declared.table.Table.{Table}
-use Rattle.tasks.specs.declared.outcome.Outcome.{Outcome}
-use Rattle.tasks.specs.declared.outcome.Outcome.TheVariants.{Done, Refused}
-use Rattle.tasks.proofs.Small.{Below}
+use Rattle.std.proofs.Common.{Ok, Err}
+use Rattle.tasks.specs.Refusals.{number_of}
+use Rattle.tasks.specs.Outcome.{Outcome}
+use Rattle.tasks.proofs.OutcomeLaws.{number_small}
 use Rattle.tasks.specs.Limits.{max_cores}
 use Rattle.reader.specs.Reading.{reading}
-use Rattle.reader.proofs.Small.{reading_below}
 use Rattle.judge.specs.Judge.{judged}
 use Rattle.judge.specs.SlackJudge.{slack_judged}
 use Rattle.judge.proofs.Outcome.{count_small}
@@ -47,16 +48,18 @@ unfolding lines_up_to
 lines_few line most few zero h = omega arith
 lines_few line most few (suc n) h = simp length-append (omega (arith, lines_few line most few n (omega arith), few (suc n) h))
 
-after_few : (test : Test) (o : Outcome) (t : Table) → Below 6 o → length (printed_after test o t) ≤ room
+after_few : (test : Test) (o : Outcome) (t : Table) → length (printed_after test o t) ≤ room
 unfolding printed_after refused_line numbers_line further_numbers
-after_few test Done t b =
+after_few test (Ok _) t =
     simp length-append (omega (arith, header_few test, lines_few (verdict_line test t) 8 (line_few test t) (min max_cores t.count) (omega arith)))
-after_few test (Refused number place) t b = simp length-append (omega (arith, text_few 0 number (omega (arith, b number place refl))))
+after_few test (Err why) t =
+    let small = number_small why.reason in
+    simp length-append (omega (arith, text_few 1 (number_of why.reason) (omega arith)))
 
 printed_few : (test : Test) (s : List ℕ) → length (printed test s) ≤ room
 unfolding printed
-printed_few test s = after_few test (reading s).outcome (reading s).table (reading_below s)
+printed_few test s = after_few test (reading s).outcome (reading s).table
 
-pub printed_held_lem :
-    (test : Test) (s a b : List ℕ) (r : ℕ) → room ≤ length a → Put a 0 (printed test s) b r → Holds (printed test s) b r
-printed_held_lem test s a b r h p = put_all a (printed test s) b r p (omega (arith, printed_few test s))
+pub printed_held :
+    {N : ℕ} {o p : Output N} (test : Test) (s : List ℕ) → room ≤ N → o ≡ fresh N → p ≡ put o (printed test s) → Holds (printed test s) p
+printed_held test s enough e f = put_all (printed test s) e f (omega (arith, printed_few test s))

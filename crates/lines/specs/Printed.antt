@@ -1,11 +1,11 @@
 -- What verdict and sharper print of a table: of the window test document 01, "The table as text", and of the slack test docs/HANDBOOK.md, "Reading a
 -- verdict". `lines_up_to` and `room` serve quote too.
-use Rattle.std.specs.Prelude.{ℕ, zero, suc, min, cond, List, [], ◌∷◌, ◌++◌}
+use Rattle.std.specs.Prelude.{ℕ, zero, suc, min, cond, List, [], ◌∷◌, ◌++◌, Ok, Err}
 use Rattle.text.specs.Output.{numbers_line, refused_line}
 use Rattle.tasks.specs.declared.table.Table.{Table}
-use Rattle.tasks.specs.declared.outcome.Outcome.{Outcome}
-use Rattle.tasks.specs.declared.outcome.Outcome.TheVariants.{Done, Refused}
 use Rattle.tasks.specs.Limits.{max_cores}
+use Rattle.tasks.specs.Refusals.{number_of}
+use Rattle.tasks.specs.Outcome.{Outcome}
 use Rattle.reader.specs.Reading.{reading}
 use Rattle.judge.specs.Judge.{judged}
 use Rattle.judge.specs.SlackJudge.{slack_judged}
@@ -34,8 +34,8 @@ lines_up_to line (suc n) = lines_up_to line n ++ line (suc n)
 -- document 01: "a line of names, then for m = 1 up to the smaller of 16 and the number of tasks"; "A refused table prints `REFUSED`, a space and the
 -- refusal number"; the handbook: "a refused table prints as in `verdict`"
 unfoldable pub printed_after : Test → Outcome → Table → List ℕ
-printed_after test Done t = header test ++ lines_up_to (verdict_line test t) (min max_cores t.count)
-printed_after test (Refused number place) t = refused_line number
+printed_after test (Ok _) t = header test ++ lines_up_to (verdict_line test t) (min max_cores t.count)
+printed_after test (Err why) t = refused_line (number_of why.reason)
 
 -- document 01: "reads a table from standard input and prints": what is printed for a text
 unfoldable pub printed : Test → List ℕ → List ℕ

@@ -1,18 +1,18 @@
-// The lines that verdict and sharper print of a table, and what quote shares with them. What puts them answers how many bytes the array then holds.
+// The lines that verdict and sharper print of a table, and what quote shares with them.
 #![tactic(auto)]
 
-ghost use Rattle.std.specs.Prelude.{min, ◌≡◌, ◌++◌};
-ghost use Rattle.text.specs.Output.{Put};
+ghost use Rattle.std.specs.Prelude.{ℕ, min, ◌≡◌, List, ◌++◌};
+ghost use Rattle.text.specs.Output.{put, Holds};
 ghost use Rattle.tasks.specs.Limits.{max_cores};
 ghost use Rattle.lines.specs.Printed.{header, line_numbers, verdict_line, lines_up_to, printed};
 
+use judge::judge;
 use judge::slack::judge_by_slack;
 use tasks::limits::MAX_CORES;
-use tasks::outcome::Outcome;
 use tasks::table::Table;
-use text::output::{put, put_numbers, put_refused};
+use text::output::Output;
 
-// Which test's lines are printed: verdict's or sharper's.
+// Which test's lines are printed: verdict's or sharper's. An enum and no closure: what is printed is a definition of the test's name (`printed`).
 #[derive(Clone, Copy)]
 pub enum Test {
     Window,
@@ -20,79 +20,115 @@ pub enum Test {
 }
 
 // Room for what is printed, in contracts `room`.
-pub const OUTPUT_ROOM: usize = 160;
+const OUTPUT_ROOM: usize = 160;
 
-// The line of names.
-fn put_header(output: &mut [u8], test: Test) -> usize
-    ensures { Put output.old 0 (header test) output.new result }
-{
-    match test {
-        Test::Window => put(output, 0, b"CORES COUNT ADMIT\n"),
-        Test::Slack => put(output, 0, b"CORES ROUNDS ADMIT\n"),
-    }
+// Where what is printed is put together.
+pub type Printed = Output<OUTPUT_ROOM>;
+
+// What has a line for each number of cores.
+pub trait Lines<const N: usize> {
+    // The line of m cores.
+    ghost line: { Self → (m : ℕ) → List ℕ };
+
+    // Puts the line of a number of cores.
+    fn put_line(&self, output: &mut Output<N>, cores: u32)
+        ensures { output.new ≡ put output.old (line self.now cores) };
 }
 
-// The numbers of a line: the cores, COUNT or the rounds made, and 1 for admitted or 0.
-fn line_numbers(test: Test, table: Table, cores: u32) -> [u64; 3]
-    ensures { result ≡ line_numbers test table cores }
-{
-    match test {
-        Test::Window => {
-            let verdict = judge::judge(table, cores);
-            let count = verdict.count();
-            let admits = verdict.admits();
-            [cores as u64, count as u64, admits as u64]
-        }
-        Test::Slack => {
-            let verdict = judge_by_slack(table, cores);
-            let rounds = verdict.rounds();
-            let admits = verdict.admits();
-            [cores as u64, rounds as u64, admits as u64]
-        }
-    }
-}
-
-// The line of a number of cores.
-fn put_line(output: &mut [u8], used: usize, test: Test, table: Table, cores: u32) -> usize
-    ensures { Put output.old used (verdict_line test table cores) output.new result }
-{
-    let numbers = line_numbers(test, table, cores);
-    put_numbers(output, used, &numbers)
+// A table of which a test's lines are printed.
+#[derive(Clone, Copy)]
+struct TestedTable {
+    test: Test,
+    table: Table,
 }
 
 // The largest number of cores that has a line.
 pub fn last_cores(count: usize) -> u32
     ensures { result ≡ min max_cores count }
 {
-    if count < MAX_CORES as usize {
-        return count as u32;
-    }
-    MAX_CORES
+    count.min(MAX_CORES as usize) as u32
 }
 
 // The line of names and the lines of the numbers of cores.
-fn put_lines(output: &mut [u8], test: Test, table: Table) -> usize
-    ensures { Put output.old 0 (header test ++ lines_up_to (verdict_line test table) (min max_cores table.count)) output.new result }
+pub fn put_lines<L: Lines<N>, const N: usize>(
+    output: &mut Output<N>,
+    header: &[u8],
+    lines: &L,
+    count: usize,
+)
+    ensures { output.new ≡ put output.old (header.now ++ lines_up_to (L.line lines.now) (min max_cores count)) }
 {
-    let last = last_cores(table.count);
-    let mut used = put_header(output, test);
-    let mut cores: u32 = 0;
-    while cores < last {
-        cores += 1;
-        used = put_line(output, used, test, table, cores);
+    output.put(header);
+    for cores in 1..=last_cores(count) {
+        lines.put_line(output, cores);
     }
-    used
+}
+
+impl Test {
+    // The line of names.
+    #[tactic(auto, unfolding(crate::specs::Printed::header))]
+    fn header(self) -> &'static [u8]
+        ensures { result.now ≡ header self }
+    {
+        match self {
+            Test::Window => b"CORES COUNT ADMIT\n",
+            Test::Slack => b"CORES ROUNDS ADMIT\n",
+        }
+    }
+}
+
+impl TestedTable {
+    // The numbers of a line: the cores, COUNT or the rounds made, and 1 for admitted or 0.
+    #[tactic(auto, using(laws::proofs::Booleans::bool_byte_lem), unfolding(crate::specs::Printed::line_numbers, judge::specs::Judge::values_of, judge::specs::Judge::refused_values, judge::specs::SlackJudge::slack_values_of, judge::specs::SlackJudge::refused_by_slack))]
+    fn line_numbers(&self, cores: u32) -> [u64; 3]
+        ensures { result ≡ line_numbers self.now.test self.now.table cores }
+    {
+        let (number, admits) = match self.test {
+            Test::Window => match judge(self.table, cores) {
+                Ok(verdict) => (verdict.count, verdict.admitted),
+                Err(_) => (0, false),
+            },
+            Test::Slack => match judge_by_slack(self.table, cores) {
+                Ok(verdict) => (verdict.rounds, verdict.admitted),
+                Err(_) => (0, false),
+            },
+        };
+        [cores as u64, number as u64, admits as u64]
+    }
+}
+
+impl<const N: usize> Lines<N> for TestedTable {
+    ghost line = { λ t. verdict_line t.test t.table };
+
+    #[tactic(auto, unfolding(crate::specs::Printed::verdict_line))]
+    fn put_line(&self, output: &mut Output<N>, cores: u32) {
+        output.put_numbers(&self.line_numbers(cores));
+    }
+}
+
+// Puts what is printed for a text.
+#[tactic(auto, unfolding(crate::specs::Printed::printed, crate::specs::Printed::printed_after))]
+pub fn put_printed<const N: usize>(output: &mut Output<N>, text: &[u8], test: Test)
+    ensures { output.new ≡ put output.old (printed test text.now) }
+{
+    let answer = reader::read(text);
+    let table = answer.table;
+    match answer.outcome {
+        Ok(()) => put_lines(
+            output,
+            test.header(),
+            &TestedTable { test, table },
+            table.count,
+        ),
+        Err(refusal) => output.put_refused(refusal.reason.number()),
+    }
 }
 
 // What is printed for a text.
-pub fn put_printed(output: &mut [u8], text: &[u8], test: Test) -> usize
-    ensures { Put output.old 0 (printed test text.now) output.new result }
+pub fn printed(text: &[u8], test: Test) -> Printed
+    ensures { Holds (printed test text.now) result }
 {
-    let answer = reader::read(text);
-    let outcome = answer.outcome;
-    if let Outcome::Refused { number, place: _ } = outcome {
-        return put_refused(output, 0, number);
-    }
-    let table = answer.table;
-    put_lines(output, test, table)
+    let mut output = Output::new();
+    put_printed(&mut output, text, test);
+    output
 }

@@ -1,6 +1,7 @@
 -- A call by what it came to: refused, with the machine as it was, by number 0 only if that is unsound, or carried out, with what was found true first.
 -- Others cite `by_call` and the records of what an accepted call found.
-use Prim.Native.Nat.{ℕ, ◌-◌, ◌≤◌, ◌<◌}
+use Rattle.std.proofs.Common.{Ok, Err, Option, Some, None}
+use Prim.Native.Nat.{ℕ, ◌-◌, ◌≤◌}
 use mathlib.Core.Path.{◌≡◌, refl}
 use mathlib.Core.Bool.{Bool, true, false, cond, not}
 use mathlib.Core.List.{List}
@@ -8,12 +9,14 @@ use lib.Dec.{ltb}
 use native.Mathlib.Omega.{arith}
 use borrow.Author.Tests.{not-true, not-false, ltb-false}
 use Rattle.tasks.specs.declared.task.Task.{Task}
-use Rattle.tasks.specs.declared.outcome.Outcome.{Outcome}
-use Rattle.tasks.specs.declared.outcome.Outcome.TheVariants.{Done, Refused}
+use Rattle.tasks.specs.Outcome.{Outcome}
+use Rattle.tasks.specs.Refusals.{number_of, refusal}
 use Rattle.tasks.specs.Limits.{max_cores}
-use Rattle.tasks.specs.Refusals.{unsound_machine, no_such_task, released_too_soon, job_not_open, slot_cores_out_of_range, need_out_of_range, no_held_task}
+use Rattle.tasks.specs.declared.refusals.Refusal.{Refusal}
+use Rattle.tasks.specs.declared.refusals.Reason.{Reason}
+use Rattle.tasks.specs.declared.refusals.Reason.TheVariants.{UnsoundMachine, NoSuchTask, ReleasedTooSoon, JobNotOpen, SlotCoresOutOfRange, NeedOutOfRange, NoHeldTask}
 use Rattle.laws.proofs.CaseSplits.{not_both, by_cond}
-use Rattle.tasks.proofs.OutcomeLaws.{Numbered}
+use Rattle.tasks.proofs.OutcomeLaws.{Not0, refused_not_0}
 use Rattle.job.specs.Job.{closed_job, released_job}
 use Rattle.job.proofs.NeedLaws.{NeedRange, need_range}
 use Rattle.machine.specs.Machine.{task_at, job_at, with_job, holding}
@@ -23,14 +26,12 @@ use Rattle.machine.specs.Cores.{slot_assignment, with_assigned}
 use Rattle.machine.specs.Offer.{offer_checked}
 use Rattle.machine.specs.Sound.{sound}
 use Rattle.machine.specs.Calls.{done, refuse, release, finish, slot_cores_in_range, slot, offer_after, offer, with_joined, commit_held, commit, step}
-use Rattle.machine.specs.declared.held.Held.{Held}
-use Rattle.machine.specs.declared.held.Held.TheVariants.{None, Offered}
 use Rattle.machine.specs.declared.machine.Machine.{Machine}
 use Rattle.machine.specs.declared.call.Call.{Call}
 use Rattle.machine.specs.declared.call.Call.TheVariants.{Release, Finish, Slot, Offer, Commit}
 use Rattle.machine.specs.declared.answer.Answer.{Answer}
 use Rattle.machine.specs.declared.answer.Report.{Report}
-use Rattle.machine.proofs.OfferLaws.{OfferFits, offer_numbered}
+use Rattle.machine.proofs.OfferLaws.{OfferFits, offer_not_0}
 use Rattle.machine.proofs.SoundLaws.{sound_free, held_fits}
 use Rattle.machine.proofs.TaskNumbers.{KnownTask, known_task}
 use Rattle.machine.proofs.SlotStep.{LegalSlot}
@@ -38,11 +39,11 @@ use Rattle.machine.proofs.RunnersLegal.{runners_legal, enough_cores, few_cores}
 use Rattle.machine.proofs.RunnersPlaced.{Placed, runners_placed}
 
 -- the answer of a refused call, of an accepted one, and of an accepted slot
-abbrev pub refusal : Machine → (number place : ℕ) → Answer
-refusal m number place = record { machine = m; outcome = Refused number place; report = no_report }
+abbrev pub refused : Machine → Refusal → Answer
+refused m why = record { machine = m; outcome = Err why; report = no_report }
 
 abbrev pub accepted : Machine → Report → Answer
-accepted m report = record { machine = m; outcome = Done; report = report }
+accepted m report = record { machine = m; outcome = Ok tt; report = report }
 
 abbrev pub slot_answer : Machine → (ran : List Bool) → (assigned : List ℕ) → Answer
 slot_answer m ran assigned = accepted (with_assigned (after_slot m ran) assigned) (slot_report m ran assigned)
@@ -53,11 +54,6 @@ after_release m number need = with_job m (number - 1) (released_job (task_at m (
 
 unfoldable pub after_finish : Machine → (number : ℕ) → Machine
 after_finish m number = with_job m (number - 1) (closed_job (job_at m (number - 1)))
-
--- a refusal's number: 0 only on an unsound machine, and two digits at most
-pub record Refusal (m : Machine) (number : ℕ) : Type 0 where
-  pub some : sound m ≡ true → 0 < number
-  pub small : number < 100
 
 -- what an accepted release, finish, slot, offer and commit found
 pub record ReleaseTaken (m : Machine) (number need : ℕ) : Type 0 where
@@ -77,51 +73,47 @@ pub record SlotTaken (m : Machine) (k : ℕ) (ran : List Bool) (assigned : List 
 
 pub record OfferTaken (m : Machine) (t : Task) : Type 0 where
   pub is_sound : sound m ≡ true
-  pub passes : offer_checked m.table m.cores t ≡ Done
+  pub passes : offer_checked m.table m.cores t ≡ Ok tt
 
 pub record CommitTaken (m : Machine) (t : Task) : Type 0 where
   pub is_sound : sound m ≡ true
-  pub held_is_lem : m.held ≡ Offered t
+  pub held_is_lem : m.held ≡ Some t
   pub fits : OfferFits m.table m.cores t
 
 -- what holds of a refused call's answer and of each accepted call's holds of every call's
 module _
     (m : Machine)
     (P : Call → Answer → Type 0)
-    (on_refusal : (call : Call) (number place : ℕ) → Refusal m number → P call (refusal m number place))
+    (on_refusal : (call : Call) (why : Refusal) → (sound m ≡ true → Not0 (Err why)) → P call (refused m why))
     (on_release : (number need : ℕ) → ReleaseTaken m number need → P (Release number need) (accepted (after_release m number need) no_report))
     (on_finish : (number : ℕ) → FinishTaken m number → P (Finish number) (accepted (after_finish m number) no_report))
     (on_slot : (k : ℕ) (ran : List Bool) (assigned : List ℕ) → SlotTaken m k ran assigned → P (Slot k) (slot_answer m ran assigned))
-    (on_offer : (t : Task) → OfferTaken m t → P (Offer t) (accepted (holding m (Offered t)) no_report))
+    (on_offer : (t : Task) → OfferTaken m t → P (Offer t) (accepted (holding m (Some t)) no_report))
     (on_commit : (t : Task) → CommitTaken m t → P Commit (accepted (with_joined m t) no_report))
   where
-    -- by a number that is not 0
-    by_number : (number : ℕ) → (0 < number) × (number < 100) → Refusal m number
-    by_number number h = record { some = λ ok. h.0; small = h.1 }
-
     -- past the test that refuses an unsound machine by 0
-    past_0 : (call : Call) {answer : Answer} → (sound m ≡ true → P call answer) → P call (cond (not (sound m)) (refusal m unsound_machine 0) answer)
+    past_0 : (call : Call) {answer : Answer} → (sound m ≡ true → P call answer) → P call (cond (not (sound m)) (refused m (refusal UnsoundMachine 0)) answer)
     past_0 call on =
-        by_cond (P call) (not (sound m)) (λ e. on_refusal call unsound_machine 0 (record { some = λ ok. not_both _ ok (not-true _ e); small = omega arith }))
+        by_cond (P call) (not (sound m)) (λ e. on_refusal call (refusal UnsoundMachine 0) (λ ok. not_both _ ok (not-true _ e)))
         (λ e. on (not-false _ e))
 
-    -- past a test that refuses the call by this number
+    -- past a test that refuses the call for this reason
     past :
-        (call : Call) (t : Bool) (number : ℕ) {answer : Answer} → (0 < number) × (number < 100) → (t ≡ false → P call answer)
-        → P call (cond t (refusal m number 0) answer)
-    past call t number h on = by_cond (P call) t (λ e. on_refusal call number 0 (by_number number h)) on
+        (call : Call) (t : Bool) (reason : Reason) {answer : Answer} → 1 ≤ number_of reason → (t ≡ false → P call answer)
+        → P call (cond t (refused m (refusal reason 0)) answer)
+    past call t reason some on = by_cond (P call) t (λ e. on_refusal call (refusal reason 0) (λ ok. refused_not_0 (refusal reason 0) some)) on
 
     -- an offer, after its checks
-    by_offer : (t : Task) (checks : Outcome) → Numbered checks → (checks ≡ Done → OfferTaken m t) → P (Offer t) (offer_after checks m t)
+    by_offer : (t : Task) (checks : Outcome) → Not0 checks → (checks ≡ Ok tt → OfferTaken m t) → P (Offer t) (offer_after checks m t)
     unfolding offer_after done
-    by_offer t Done numbered taken = on_offer t (taken refl)
-    by_offer t (Refused number place) numbered taken = on_refusal _ _ _ (by_number number (numbered.number_is number place refl))
+    by_offer t (Ok _) not_0 taken = on_offer t (taken refl)
+    by_offer t (Err why) not_0 taken = on_refusal (Offer t) why (λ ok. not_0)
 
     -- a commit, by what the machine holds
-    by_held : sound m ≡ true → (held : Held) → m.held ≡ held → P Commit (commit_held held m)
+    by_held : sound m ≡ true → (held : Option Task) → m.held ≡ held → P Commit (commit_held held m)
     unfolding commit_held refuse done
-    by_held ok None e = on_refusal _ _ _ (by_number no_held_task (omega arith))
-    by_held ok (Offered t) e = on_commit t (record { is_sound = ok; held_is_lem = e; fits = held_fits m ok t e })
+    by_held ok None e = on_refusal Commit (refusal NoHeldTask 0) (λ ok. refused_not_0 (refusal NoHeldTask 0) (omega arith))
+    by_held ok (Some t) e = on_commit t (record { is_sound = ok; held_is_lem = e; fits = held_fits m ok t e })
 
     -- a task without a gap is closed, as the machine is sound
     release_taken :
@@ -143,21 +135,21 @@ module _
     unfolding step release finish slot offer commit refuse done after_release after_finish
     by_call (Release number need) =
         past_0 _ λ ok.
-        past _ _ no_such_task (omega arith) λ known.
-        past _ _ need_out_of_range (omega arith) λ needed.
-        past _ (ltb 0 (job_at m (number - 1)).gap) released_too_soon (omega arith) λ free.
+        past _ _ NoSuchTask (omega arith) λ known.
+        past _ _ NeedOutOfRange (omega arith) λ needed.
+        past _ (ltb 0 (job_at m (number - 1)).gap) ReleasedTooSoon (omega arith) λ free.
         on_release number need
         (release_taken number need (known_task m number ok (not-false _ known)) (need_range _ need (not-false _ needed)) (omega (arith, ltb-false)))
     by_call (Finish number) =
         past_0 _ λ ok.
-        past _ _ no_such_task (omega arith) λ known.
-        past _ _ job_not_open (omega arith) λ opened.
+        past _ _ NoSuchTask (omega arith) λ known.
+        past _ _ JobNotOpen (omega arith) λ opened.
         on_finish number (record { task = known_task m number ok (not-false _ known); was_open = not-false _ opened })
     by_call (Slot k) =
         past_0 _ λ ok.
-        past _ _ slot_cores_out_of_range (omega arith) λ in_range_lem.
+        past _ _ SlotCoresOutOfRange (omega arith) λ in_range_lem.
         on_slot k (runners m k) (slot_assignment m k) (slot_taken k ok (not-false _ in_range_lem))
     by_call (Offer t) =
         past_0 _ λ ok.
-        by_offer t _ (offer_numbered m.table m.cores t) λ passes. record { is_sound = ok; passes = passes }
+        by_offer t _ (offer_not_0 m.table m.cores t) λ passes. record { is_sound = ok; passes = passes }
     by_call Commit = past_0 _ λ ok. by_held ok m.held refl

@@ -1,6 +1,7 @@
 -- What the claim of demand 3 says. The logs made by hand all come to what `claims` says of them (`claims_hold`). The claim is not empty: it speaks of a release,
 -- with a need below the budget, whose job runs and finishes (`not_empty`); and it is false of a log with a late job (`late_refuted`) and of one with a
 -- job that does not finish when it has run what its release named (`unclosed_refuted`).
+use Rattle.std.proofs.Common.{Ok}
 use Prim.Native.Nat.{ℕ, ◌-◌, ◌≤◌, ◌<◌}
 use mathlib.Core.Path.{◌≡◌, refl}
 use mathlib.Core.Bool.{Bool, true, false}
@@ -8,7 +9,6 @@ use mathlib.Core.List.{List, [], ◌∷◌, ◌++◌}
 use lib.ListN.{get_or, take, drop, replicate}
 use native.Mathlib.Omega.{arith}
 use Rattle.tasks.specs.declared.table.Table.{Table}
-use Rattle.tasks.specs.declared.outcome.Outcome.TheVariants.{Done}
 use Rattle.tasks.specs.Table.{zero_task}
 use Rattle.tasks.specs.Outcome.{is_done}
 use Rattle.tasks.specs.Written.{task, table_of}
@@ -36,7 +36,7 @@ pub second_late : Entry
 second_late =
     record {
       call = Slot 1;
-      outcome = Done;
+      outcome = Ok tt;
       report = record { ran = []; finished = []; late = false ∷ true ∷ []; runners = 0; assigned = [] };
     }
 
@@ -50,7 +50,7 @@ pub fourth_ran : (finished : Bool) → Entry
 fourth_ran finished =
     record {
       call = Slot 2;
-      outcome = Done;
+      outcome = Ok tt;
       report =
           record {
             ran = replicate 3 false ++ true ∷ [];
@@ -117,7 +117,7 @@ not_empty =
       number = 4;
       need = 2;
       before = take 3 entries;
-      entry = record { call = Release 4 2; outcome = Done; report = no_report };
+      entry = record { call = Release 4 2; outcome = Ok tt; report = no_report };
       after = drop 4 entries;
       log = refl;
       called = refl;

@@ -10,6 +10,7 @@ use Rattle.laws.proofs.CaseSplits.{by_order, by_test}
 use Rattle.laws.proofs.SumLaws.{bit_true, bit_false}
 use Rattle.machine.specs.Slot.{no_report, slot_report, after_slot}
 use Rattle.machine.specs.Cores.{with_assigned}
+use Rattle.tasks.specs.declared.refusals.Refusal.{Refusal}
 use Rattle.tasks.specs.Outcome.{is_done}
 use Rattle.machine.specs.Play.{Entry, play}
 use Rattle.machine.specs.InTime.{is_slot, is_finish_of, accepted_slot, accepted_finish, says_ran, says_finished, slot_count}
@@ -19,7 +20,7 @@ use Rattle.machine.specs.declared.call.Call.TheVariants.{Slot}
 use Rattle.machine.specs.declared.answer.Answer.{Answer}
 use Rattle.machine.proofs.State.{jobs_of, same_job}
 use Rattle.machine.proofs.SlotStep.{LegalSlot, finished_is}
-use Rattle.machine.proofs.CallCases.{refusal, accepted, slot_answer}
+use Rattle.machine.proofs.CallCases.{refused, accepted, slot_answer}
 use Rattle.machine.proofs.CallKinds.{Silent, by_kind}
 use Rattle.machine.proofs.Kept.{Kept, kept_call}
 use Rattle.machine.proofs.Going.{Going, left_some, budget_some, going_same, going_on}
@@ -48,9 +49,9 @@ module _ (m : Machine) (i l b : ℕ) (going : Going m i l b) where
   past e log no_slot rest bound = closes_past (suc i) l b e log (left_some going) no_slot (rest (rw no_slot at bound))
 
   module _ (calls : List Call) (rest : AllClose i calls) where
-    after_refusal : (call : Call) (number place : ℕ) → ClosesAfter i l b calls call (refusal m number place)
+    after_refusal : (call : Call) (why : Refusal) → ClosesAfter i l b calls call (refused m why)
     unfolding AllClose ClosesAfter accepted_slot is_done
-    after_refusal call number place = past _ _ refl (rest m l b going)
+    after_refusal call why = past _ _ refl (rest m l b going)
 
     -- an accepted call that is no slot finishes the job, or leaves it as it was
     after_silent : (call : Call) (m' : Machine) → Silent m call m' → Kept m' → ClosesAfter i l b calls call (accepted m' no_report)
@@ -103,7 +104,7 @@ all_close i [] m l b going = λ bound. absurd (omega (arith, left_some going))
 all_close i (call ∷ calls) m l b going =
     let rest = all_close i calls in
     by_kind m (λ call answer. Kept answer.machine → ClosesAfter i l b calls call answer)
-    (λ call number place told kept'. after_refusal m i l b going calls rest call number place)
+    (λ call why told kept'. after_refusal m i l b going calls rest call why)
     (after_silent m i l b going calls rest)
     (λ k ran assigned taken kept'. after_slot_lem m i l b going k ran assigned taken.legal calls rest)
     call

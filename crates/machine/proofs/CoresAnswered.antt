@@ -1,6 +1,7 @@
 -- What an accepted slot answers of cores, and what the machine records. In every accepted slot each runner has a core of 1 to k, no two runners share one,
 -- and no other task has one: `slot_cores_fit`. The record after the slot is what was answered: `record_answered`, and `always_recorded` over every list of
 -- calls from a start. No other call, and no refused one, changes the record of a task of the table: `record_kept`.
+use Rattle.std.proofs.Common.{Ok}
 use Prim.Native.Nat.{ℕ, ◌≤◌, ◌<◌}
 use mathlib.Core.Path.{◌≡◌, refl, sym, ◌∙◌}
 use mathlib.Core.Bool.{true, false, ◌&&◌}
@@ -10,7 +11,6 @@ use lib.ListN.{length, get_or, length-replicate}
 use Rattle.laws.proofs.CaseSplits.{by_order, not_both}
 use Rattle.laws.proofs.Replaced.{length_replaced, replaced_at}
 use Rattle.tasks.specs.declared.table.Table.{Table}
-use Rattle.tasks.specs.declared.outcome.Outcome.TheVariants.{Done}
 use Rattle.tasks.specs.Limits.{max_tasks}
 use Rattle.tasks.specs.Outcome.{is_done}
 use Rattle.machine.specs.Machine.{core_at}
@@ -38,7 +38,7 @@ each_fit : (m : Machine) (call : Call) (k : ℕ) → call ≡ Slot k → is_done
 unfolding slot_report is_done is_slot
 each_fit m =
     by_kind m (λ call answer. (k : ℕ) → call ≡ Slot k → is_done answer.outcome ≡ true → CoresFit k answer.report)
-    (λ call number place told k e d. not_both false d refl)
+    (λ call why told k e d. not_both false d refl)
     (λ call m' silent k e d. let is : is_slot call ≡ true = rw e in not_both (is_slot call) is silent.no_slot)
     (λ k' ran assigned taken k e d.
     let same : k' ≡ k = cc in
@@ -61,7 +61,7 @@ length_kept : (m : Machine) (call : Call) → length (step m call).machine.assig
 unfolding after_slot with_assigned
 length_kept m =
     by_kind m (λ call answer. length answer.machine.assigned ≡ length m.assigned)
-    (λ call number place told. refl)
+    (λ call why told. refl)
     (λ call m' silent. silent.record_long)
     (λ k ran assigned taken. length_replaced (λ i. get_or assigned i 0) m.assigned m.table.count)
 
@@ -73,7 +73,7 @@ each_recorded m all =
     by_kind m
     (λ call answer. is_slot call ≡ true → is_done answer.outcome ≡ true → (i : ℕ) → i < m.table.count
     → core_at answer.machine i ≡ get_or answer.report.assigned i 0)
-    (λ call number place told is d. not_both false d refl)
+    (λ call why told is d. not_both false d refl)
     (λ call m' silent is. not_both (is_slot call) is silent.no_slot)
     (λ k ran assigned taken is d i h.
     replaced_at (λ j. get_or assigned j 0) m.assigned 0 m.table.count i h
@@ -93,11 +93,11 @@ unfolding is_done is_slot
 record_kept m =
     by_kind m
     (λ call answer. (is_slot call && is_done answer.outcome) ≡ false → (i : ℕ) → i < m.table.count → core_at answer.machine i ≡ core_at m i)
-    (λ call number place told no i h. refl)
+    (λ call why told no i h. refl)
     (λ call m' silent no. silent.record_stays)
     (λ k ran assigned taken no. not_both true refl no)
 
-module _ (t : Table) (cores : ℕ) (starts : (start t cores).outcome ≡ Done) where
+module _ (t : Table) (cores : ℕ) (starts : (start t cores).outcome ≡ Ok tt) where
   all_recorded : (calls : List Call) (m : Machine) → length m.assigned ≡ max_tasks → length (machine_after m calls).assigned ≡ max_tasks
   unfolding machine_after
   all_recorded [] m all = all

@@ -36,7 +36,7 @@ pub point_after_lem : (m : Machine) (call : Call) → point_of (step m call).mac
 unfolding is_done point_of point_by after_slot with_assigned
 point_after_lem m =
     by_kind m (λ call answer. point_of answer.machine ≡ cond (is_done answer.outcome) (point_by call (point_of m)) (point_of m))
-    (λ call number place told. refl)
+    (λ call why told. refl)
     (λ call m' silent. silent.point_is)
     (λ k ran assigned taken. refl)
 
@@ -82,7 +82,7 @@ module _ (m : Machine) (kept : Kept m) where
   unfolding is_done task_at
   entry_in_time calls =
       by_kind m (λ call answer. EntryInTime m.table (entry_of call answer) (play answer.machine calls))
-      (λ call number place told. quiet_in_time _ _ _ refl (λ n e c d. clash cc))
+      (λ call why told. quiet_in_time _ _ _ refl (λ n e c d. clash cc))
       (λ call m' silent.
       record {
         not_late = quiet_report;

@@ -1,5 +1,6 @@
 -- The claim of a log, entry by entry: `each_in_time`. The claim of one entry is `EntryInTime`; `quiet_in_time` gives that of an entry that reports
 -- nothing and is no release; `each_none` and `each_more` put them together, for the empty log and for one entry in front.
+use Rattle.std.proofs.Common.{None}
 use Prim.Native.Nat.{ℕ, ◌-◌, ◌≤◌}
 use mathlib.Core.Path.{◌≡◌, subst}
 use mathlib.Core.Bool.{true, false, cond}
@@ -14,7 +15,6 @@ use Rattle.machine.specs.Slot.{no_report}
 use Rattle.tasks.specs.Outcome.{is_done}
 use Rattle.machine.specs.Play.{Entry}
 use Rattle.machine.specs.InTime.{slot_count, Point, point_by, point_after, table_after, closed_by_slot, InTime}
-use Rattle.machine.specs.declared.held.Held.TheVariants.{None}
 use Rattle.machine.specs.declared.call.Call.TheVariants.{Release}
 
 -- the claim of one entry that a machine on the table t answers, with the log after it

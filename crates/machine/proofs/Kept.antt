@@ -1,5 +1,6 @@
 -- The invariant of a machine on an admitted table: a fresh machine has it (`kept_fresh`), every call keeps it (`kept_call`), and by it no
 -- job is late in a slot (`slot_on_time`).
+use Rattle.std.proofs.Common.{Option, None}
 use Prim.Native.Nat.{ℕ, ◌-◌, ◌≤◌, ◌<◌}
 use mathlib.Core.Path.{◌≡◌}
 use mathlib.Core.Bool.{Bool, true, false}
@@ -21,8 +22,6 @@ use Rattle.machine.specs.Machine.{job_at, with_job, holding}
 use Rattle.machine.specs.Slot.{after_slot}
 use Rattle.machine.specs.Cores.{with_assigned}
 use Rattle.machine.specs.Calls.{done, start_after, start, with_joined, step}
-use Rattle.machine.specs.declared.held.Held.{Held}
-use Rattle.machine.specs.declared.held.Held.TheVariants.{None}
 use Rattle.machine.specs.declared.machine.Machine.{Machine}
 use Rattle.machine.specs.declared.call.Call.{Call}
 use Rattle.machine.proofs.State.{jobs_of}
@@ -92,7 +91,7 @@ module _ (m : Machine) (kept : Kept m) where
       (finish_step m kept.all_jobs number taken))
 
   -- what is held plays no part
-  kept_offer : (held : Held) → Kept (holding m held)
+  kept_offer : (held : Option Task) → Kept (holding m held)
   unfolding holding jobs_of job_at
   kept_offer held = record { safe = kept.safe; admits = kept.admits; all_jobs = kept.all_jobs }
 
@@ -126,7 +125,7 @@ module _ (m : Machine) (kept : Kept m) where
   pub kept_call : (call : Call) → Kept (step m call).machine
   kept_call =
       by_call m (λ call answer. Kept answer.machine)
-      (λ call number place told. kept)
+      (λ call why told. kept)
       kept_release
       kept_finish
       (λ k ran assigned taken. kept_slot ran assigned taken.legal)

@@ -6,6 +6,7 @@ pub mod PickLaws
 pub mod RunnersLegal
 pub mod RanksLaws
 pub mod RunnerOrder
+pub mod PickTurn
 pub mod RunnersPlaced
 pub mod SlotStep
 pub mod TaskNumbers

@@ -1,52 +1,53 @@
--- What the checks of an offer found. Others cite `OfferFits` with `offer_fits`, of an offer that passes them; `offer_numbered`, of the numbers by which they
--- refuse one; and by what the code's verdict is, `refused_verdict` and `judged_verdict`.
+-- What the checks of an offer found. Others cite `OfferFits` with `offer_fits`, of an offer that passes them; and `offer_not_0`, that they refuse none by
+-- number 0.
+use Rattle.std.proofs.Common.{Ok, Err}
 use Prim.Native.Nat.{ℕ, ◌<◌}
 use native.Mathlib.Omega.{arith}
-use mathlib.Core.Path.{◌≡◌}
+use mathlib.Core.Path.{◌≡◌, refl}
 use mathlib.Core.Bool.{Bool, true, cond, not}
 use lib.Dec.{leb}
 use borrow.Author.Tests.{not-false, leb-false}
-use Rattle.laws.proofs.CaseSplits.{by_cond, clash}
+use Rattle.laws.proofs.CaseSplits.{by_cond}
 use Rattle.tasks.specs.declared.task.Task.{Task}
 use Rattle.tasks.specs.declared.table.Table.{Table}
-use Rattle.tasks.specs.declared.outcome.Outcome.{Outcome}
-use Rattle.tasks.specs.declared.outcome.Outcome.TheVariants.{Done, Refused}
 use Rattle.tasks.specs.Limits.{max_tasks}
-use Rattle.tasks.specs.Refusals.{task_out_of_range, table_full, not_admitted}
+use Rattle.tasks.specs.declared.refusals.Reason.TheVariants.{TaskOutOfRange, TableFull, NotAdmitted}
+use Rattle.tasks.specs.Refusals.{refusal}
 use Rattle.tasks.specs.Task.{in_range}
 use Rattle.tasks.specs.Table.{with_task}
-use Rattle.tasks.specs.Outcome.{first_refusal}
-use Rattle.tasks.proofs.OutcomeLaws.{Numbered, done_numbered, refused_numbered, both_done}
+use Rattle.tasks.specs.Outcome.{Outcome, first_refusal}
+use Rattle.tasks.proofs.OutcomeLaws.{Not0, done_not_0, refused_not_0, refused_not_done, both_done}
 use Rattle.judge.specs.SlackJudge.{AdmissionValues, admission_values_of, admission}
-use Rattle.judge.specs.declared.admission.Admission.TheVariants as Adm
-use Rattle.judge.proofs.Admitted.{admission_numbered}
+use Rattle.judge.proofs.Admitted.{admission_not_0}
 use Rattle.machine.specs.Offer.{offer_verdict, offer_checked}
 
 -- an offer that passes: the task is in range, the table has room, and the longer one is judged and admitted
 pub record OfferFits (t : Table) (cores : ℕ) (task : Task) : Type 0 where
   pub in_range_lem : in_range task ≡ true
   pub room : t.count < max_tasks
-  pub judged : (admission (with_task t task) cores).outcome ≡ Done
+  pub judged : (admission (with_task t task) cores).outcome ≡ Ok tt
   pub admits : (admission (with_task t task) cores).admits ≡ true
 
 -- the last check, after a verdict
 abbrev last : Outcome → (admits : Bool) → Outcome
-last verdict admits = first_refusal verdict (cond admits Done (Refused not_admitted 0))
+last verdict admits = first_refusal verdict (cond admits (Ok tt) (Err (refusal NotAdmitted 0)))
 
-last_admits : (admits : Bool) → cond admits Done (Refused not_admitted 0) ≡ Done → admits ≡ true
-last_admits admits = by_cond (λ o. o ≡ Done → admits ≡ true) admits (λ yes e. yes) (λ no e. clash cc)
-
-last_numbered : (verdict : Outcome) (admits : Bool) → Numbered verdict → Numbered (last verdict admits)
+last_admits : (admits : Bool) → last (Ok tt) admits ≡ Ok tt → admits ≡ true
 unfolding first_refusal
-last_numbered Done admits numbered = by_cond Numbered admits (λ yes. done_numbered) (λ no. refused_numbered not_admitted 0 (omega arith))
-last_numbered (Refused number place) admits numbered = numbered
+last_admits admits =
+    by_cond (λ (o : Outcome). o ≡ Ok tt → admits ≡ true) admits (λ yes e. yes) (λ no. refused_not_done (refusal NotAdmitted 0) (Err (refusal NotAdmitted 0)) refl)
+
+last_not_0 : (verdict : Outcome) (admits : Bool) → Not0 verdict → Not0 (last verdict admits)
+unfolding first_refusal
+last_not_0 (Ok _) admits not_0 = by_cond Not0 admits (λ yes. done_not_0) (λ no. refused_not_0 (refusal NotAdmitted 0) (omega arith))
+last_not_0 (Err why) admits not_0 = not_0
 
 module _ (t : Table) (cores : ℕ) (task : Task) where
   -- what holds of the refusal by 5, of that by 12, and past these of the judge's verdict holds of the checks' verdict
   by_checks :
       (P : AdmissionValues → Type 0)
-      → P (admission_values_of (Adm.Refused task_out_of_range 0))
-      → P (admission_values_of (Adm.Refused table_full 0))
+      → P (admission_values_of (Err (refusal TaskOutOfRange 0)))
+      → P (admission_values_of (Err (refusal TableFull 0)))
       → (in_range task ≡ true → t.count < max_tasks → P (admission (with_task t task) cores))
       → P (offer_verdict t cores task)
   unfolding offer_verdict
@@ -54,31 +55,20 @@ module _ (t : Table) (cores : ℕ) (task : Task) where
       by_cond P (not (in_range task)) (λ e. on-5)
       (λ in_range_lem. by_cond P (leb max_tasks t.count) (λ e. on-12) (λ room. past (not-false _ in_range_lem) (leb-false _ _ room)))
 
-  pub offer_fits : offer_checked t cores task ≡ Done → OfferFits t cores task
+  pub offer_fits : offer_checked t cores task ≡ Ok tt → OfferFits t cores task
   unfolding offer_checked admission_values_of first_refusal
   offer_fits =
-      by_checks (λ v. last v.outcome v.admits ≡ Done → OfferFits t cores task)
-      (λ e. clash cc)
-      (λ e. clash cc)
+      by_checks (λ v. last v.outcome v.admits ≡ Ok tt → OfferFits t cores task)
+      (refused_not_done (refusal TaskOutOfRange 0) (Err (refusal TaskOutOfRange 0)) refl)
+      (refused_not_done (refusal TableFull 0) (Err (refusal TableFull 0)) refl)
       (λ in_range_lem room e.
       let (judged, admits) = both_done (admission (with_task t task) cores).outcome _ e in
       record { in_range_lem = in_range_lem; room = room; judged = judged; admits = last_admits _ admits })
 
-  pub offer_numbered : Numbered (offer_checked t cores task)
+  pub offer_not_0 : Not0 (offer_checked t cores task)
   unfolding offer_checked admission_values_of first_refusal
-  offer_numbered =
-      by_checks (λ v. Numbered (last v.outcome v.admits))
-      (refused_numbered task_out_of_range 0 (omega arith))
-      (refused_numbered table_full 0 (omega arith))
-      (λ in_range_lem room. last_numbered _ (admission (with_task t task) cores).admits (admission_numbered (with_task t task) cores))
-
-  pub refused_verdict :
-      (number place : ℕ) → admission_values_of (Adm.Refused number place) ≡ offer_verdict t cores task → offer_checked t cores task ≡ Refused number place
-  unfolding offer_checked admission_values_of first_refusal
-  refused_verdict number place e = rw (← e)
-
-  pub judged_verdict :
-      (admits : Bool) → admission_values_of (Adm.Judged admits) ≡ offer_verdict t cores task
-      → offer_checked t cores task ≡ cond admits Done (Refused not_admitted 0)
-  unfolding offer_checked admission_values_of first_refusal
-  judged_verdict admits e = rw (← e)
+  offer_not_0 =
+      by_checks (λ v. Not0 (last v.outcome v.admits))
+      (refused_not_0 (refusal TaskOutOfRange 0) (omega arith))
+      (refused_not_0 (refusal TableFull 0) (omega arith))
+      (λ in_range_lem room. last_not_0 _ (admission (with_task t task) cores).admits (admission_not_0 (with_task t task) cores))

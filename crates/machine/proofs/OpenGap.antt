@@ -1,5 +1,6 @@
 -- In every machine of every list of calls from a fresh machine an open task has a gap of at least its left, and so above 0 (`open_gap`), and a release
 -- of a task whose job is open, with a need that it may name, is refused by 9 (`open_release`): with number 10 after it, 10 would never come.
+use Rattle.std.proofs.Common.{Ok}
 use Prim.Native.Nat.{ℕ, ◌-◌, ◌≤◌, ◌<◌}
 use native.Mathlib.Omega.{arith}
 use mathlib.Core.Path.{◌≡◌}
@@ -7,8 +8,7 @@ use mathlib.Core.Bool.{true}
 use mathlib.Core.List.{List}
 use borrow.Author.Tests.{lt-ltb}
 use Rattle.tasks.specs.declared.table.Table.{Table}
-use Rattle.tasks.specs.declared.outcome.Outcome.TheVariants.{Done}
-use Rattle.tasks.specs.Refusals.{released_too_soon}
+use Rattle.tasks.specs.declared.refusals.Reason.TheVariants.{ReleasedTooSoon}
 use Rattle.job.specs.declared.job.Job.{Job}
 use Rattle.job.specs.Job.{need_in_range}
 use Rattle.job.proofs.SoundLaws.{open_numbers}
@@ -35,13 +35,13 @@ module _ (m : Machine) (ok : sound m ≡ true) where
 
   sound_release :
       (number need : ℕ) → in_table m number ≡ true → need_in_range (task_at m (number - 1)) need ≡ true → (job_at m (number - 1)).«open» ≡ true
-      → release m number need ≡ refuse m released_too_soon
+      → release m number need ≡ refuse m ReleasedTooSoon
   unfolding release
   sound_release number need known needed o =
       let task = known_task m number ok known in
       rw (ok, known, needed, lt-ltb _ _ (sound_gap (number - 1) task.inside o).above_0)
 
-module _ (t : Table) (cores : ℕ) (starts : (start t cores).outcome ≡ Done) (calls : List Call) where
+module _ (t : Table) (cores : ℕ) (starts : (start t cores).outcome ≡ Ok tt) (calls : List Call) where
   -- the machine after the calls
   abbrev later : Machine
   later = machine_after (start t cores).machine calls
@@ -51,5 +51,5 @@ module _ (t : Table) (cores : ℕ) (starts : (start t cores).outcome ≡ Done) (
 
   pub open_release :
       (number need : ℕ) → in_table later number ≡ true → need_in_range (task_at later (number - 1)) need ≡ true → (job_at later (number - 1)).«open» ≡ true
-      → release later number need ≡ refuse later released_too_soon
+      → release later number need ≡ refuse later ReleasedTooSoon
   open_release = sound_release later (always_sound t cores starts calls).is_sound

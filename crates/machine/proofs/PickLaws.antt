@@ -4,6 +4,7 @@ use Prim.Native.Nat.{ℕ, zero, suc, ◌≤◌, ◌<◌}
 use mathlib.Core.Path.{◌≡◌, refl, sym, ◌∙◌, subst}
 use mathlib.Core.Bool.{Bool, true, false}
 use mathlib.Core.List.{List}
+use Rattle.std.specs.Prelude.{Option, Some, None}
 use native.Mathlib.Omega.{arith}
 use lib.ListN.{get_or, set, length, length-set, length-replicate}
 use lib.Seq.{get_or-set_same, get_or-set_other}
@@ -28,10 +29,10 @@ pub record Picked (m : Machine) (k : ℕ) : Type 0 where
   pub number : sum_to m.table.count (λ i. bit (is_picked m k i)) ≡ k
   pub first : (y : ℕ) → is_picked m k y ≡ true → (x : ℕ) → x < m.table.count → Behind (candidates m (pick m k)) y x
 
-length_with : (picked : List Bool) (number : ℕ) → length (with_picked picked number) ≡ length picked
+length_with : (picked : List Bool) (next : Option ℕ) → length (with_picked picked next) ≡ length picked
 unfolding with_picked
-length_with picked zero = refl
-length_with picked (suc i) = length-set picked i true
+length_with picked None = refl
+length_with picked (Some i) = length-set picked i true
 
 module _ (m : Machine) where
   pub length_pick : (k : ℕ) → length (pick m k) ≡ max_tasks
@@ -66,7 +67,7 @@ module _ (m : Machine) (fits : m.table.count ≤ max_tasks) where
 
     picks_one : pick m (suc k) ≡ set (pick m k) runner true
     unfolding pick with_picked runner
-    picks_one = rw next.number_is
+    picks_one = rw next.index_is
 
     now_picked : is_picked m (suc k) runner ≡ true
     unfolding runner candidates

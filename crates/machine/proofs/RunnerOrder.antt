@@ -1,6 +1,6 @@
 -- The runners in precedence, as a list. Others cite: `listed_picked`, that those listed are those picked; and `listed_distinct`, `listed_inside` and
 -- `listed_length`, that they are so many different tasks of the table.
-use Prim.Native.Nat.{ℕ, zero, suc, ◌-◌, ◌≤◌, ◌<◌}
+use Prim.Native.Nat.{ℕ, zero, suc, ◌≤◌, ◌<◌}
 use mathlib.Core.Path.{◌≡◌, refl, sym, ◌∙◌}
 use mathlib.Core.Bool.{true, false, or-true, or-false}
 use mathlib.Core.List.{[], ◌∷◌, ◌++◌}
@@ -11,7 +11,6 @@ use borrow.Author.Tests.{eq-eqb, ne_eqb}
 use Rattle.laws.proofs.CaseSplits.{by_equal, not_both}
 use Rattle.laws.proofs.Replaced.{replicate_entry}
 use Rattle.tasks.specs.Limits.{max_tasks}
-use Rattle.job.specs.Search.{next_runner}
 use Rattle.job.proofs.Next.{Found}
 use Rattle.cores.specs.Assign.{is_among}
 use Rattle.cores.proofs.AmongLaws.{among_more}
@@ -24,18 +23,18 @@ use Rattle.machine.proofs.PickLaws.{length_pick, next_in}
 
 module _ (m : Machine) (fits : m.table.count ≤ max_tasks) where
   module _ (n : ℕ) (more : n < open_count m) where
-    next : Found (candidates m (pick m n))
+    pub next : Found (candidates m (pick m n))
     next = next_in m fits n more
 
-    next_listed : runner_order m (suc n) ≡ runner_order m n ++ next.index ∷ []
+    pub next_listed : runner_order m (suc n) ≡ runner_order m n ++ next.index ∷ []
     unfolding runner_order next
-    next_listed = let e : suc next.index - 1 ≡ next.index = omega arith in rw (next.number_is, e)
+    next_listed = rw next.index_is
 
-    next_picked : pick m (suc n) ≡ set (pick m n) next.index true
+    pub next_picked : pick m (suc n) ≡ set (pick m n) next.index true
     unfolding pick with_picked next
-    next_picked = rw next.number_is
+    next_picked = rw next.index_is
 
-    next_inside : next.index < m.table.count
+    pub next_inside : next.index < m.table.count
     unfolding candidates next
     next_inside = next.next.inside
 
@@ -80,7 +79,8 @@ module _ (m : Machine) (fits : m.table.count ≤ max_tasks) where
       listed_inside n (omega arith) i
       (rw (next_listed n h, among_more (runner_order m n) x i, ne_eqb x i (λ s. ne (sym s)), or-false) at e))
 
-  pub listed_length : (n : ℕ) → length (runner_order m n) ≡ n
+  pub listed_length : (n : ℕ) → n ≤ open_count m → length (runner_order m n) ≡ n
   unfolding runner_order
-  listed_length zero = refl
-  listed_length (suc n) = omega (arith, length-append (runner_order m n) ((next_runner (candidates m (pick m n)) - 1) ∷ []), listed_length n)
+  listed_length zero h = refl
+  listed_length (suc n) h =
+      rw (next_listed n h) (omega (arith, length-append (runner_order m n) ((next n h).index ∷ []), listed_length n (omega arith)))

@@ -1,6 +1,7 @@
 -- The runners that the machine picks for k cores are a legal choice in the theory's sense, whichever k from its own number of cores on:
 -- `runners_legal`. A slot that is not refused by 14 has so many, and at most 16: `enough_cores` and `few_cores`. The runners are as many as
--- `runner_count` says: `runners_number`. Where as many run as are open, all that are open do: `all_ran`.
+-- `runner_count` says: `runners_number`; so many are open (`runners_open`), and at most 32 (`runners_few`). Where as many run as are open, all that are
+-- open do: `all_ran`.
 use Prim.Native.Nat.{ℕ, ◌≤◌, ◌<◌}
 use mathlib.Core.Path.{◌≡◌}
 use mathlib.Core.Bool.{Bool, true, false}
@@ -13,7 +14,7 @@ use borrow.Author.Tests.{leb-true, le-leb, lt-leb}
 use Rattle.laws.proofs.CaseSplits.{by_order, by_test, not_both}
 use Rattle.laws.proofs.Booleans.{and_left, and_right}
 use Rattle.laws.specs.Sums.{bit}
-use Rattle.laws.proofs.SumLaws.{sum_strict, bit_true, bit_false, bit_monotone}
+use Rattle.laws.proofs.SumLaws.{count_bound, sum_strict, bit_true, bit_false, bit_monotone}
 use Rattle.edzl.proofs.Choice.{Beats, more_urgent, both_urgent, neither_urgent, LegalChoice}
 use Rattle.tasks.specs.Limits.{max_tasks, max_cores}
 use Rattle.job.specs.Job.{is_urgent}
@@ -55,10 +56,17 @@ all_ran m ran opened enough i l o =
           (omega (arith, bit_false (get_or ran i false) idle, bit_true (job_at m i).«open» o)),
     )))
 
+pub runners_open : (m : Machine) (k : ℕ) → runner_count m k ≤ open_count m
+unfolding runner_count
+runners_open m k = omega arith
+
 module _ (m : Machine) (k : ℕ) (fits : m.table.count ≤ max_tasks) where
+  pub runners_few : runner_count m k ≤ max_tasks
+  unfolding open_count
+  runners_few = omega (arith, runners_open m k, count_bound (λ i. (job_at m i).«open») m.table.count)
+
   all_runners : Picked m (runner_count m k)
-  unfolding runner_count
-  all_runners = picks m fits (runner_count m k) (omega arith)
+  all_runners = picks m fits (runner_count m k) (runners_open m k)
 
   runner_open : (i : ℕ) → get_or (runners m k) i false ≡ true → (job_at m i).«open» ≡ true
   unfolding runners

@@ -14,12 +14,13 @@ use Rattle.cores.proofs.AmongLaws.{among_few}
 use Rattle.cores.proofs.RecordLaws.{sound_apart}
 use Rattle.cores.proofs.OwnCores.{Assigned, assigned_all}
 use Rattle.tasks.specs.Limits.{max_tasks}
-use Rattle.machine.specs.Pick.{open_count, runner_count, runners}
+use Rattle.machine.specs.Pick.{runner_count, runners}
 use Rattle.machine.specs.Cores.{runner_order, slot_assignment}
 use Rattle.machine.specs.Sound.{sound}
 use Rattle.machine.specs.declared.machine.Machine.{Machine}
 use Rattle.machine.proofs.SoundLaws.{sound_passes, sound_cores}
 use Rattle.machine.proofs.PickLaws.{length_pick}
+use Rattle.machine.proofs.RunnersLegal.{runners_open}
 use Rattle.machine.proofs.RunnerOrder.{listed_picked, listed_distinct, listed_inside, listed_length}
 
 -- who ran in a slot with k cores, and where; a task that is not in the lists did not run and has no core
@@ -37,16 +38,12 @@ module _ (m : Machine) (k : ℕ) (ok : sound m ≡ true) where
   abbrev n : ℕ
   n = runner_count m k
 
-  few : n ≤ open_count m
-  unfolding runner_count
-  few = omega arith
-
   listed_ran : (i : ℕ) → is_among (runner_order m n) i ≡ get_or (runners m k) i false
   unfolding runners
-  listed_ran = listed_picked m (sound_passes m ok).count_fits n few
+  listed_ran = listed_picked m (sound_passes m ok).count_fits n (runners_open m k)
 
   inside : (i : ℕ) → is_among (runner_order m n) i ≡ true → i < m.table.count
-  inside = listed_inside m (sound_passes m ok).count_fits n few
+  inside = listed_inside m (sound_passes m ok).count_fits n (runners_open m k)
 
   pub runners_inside : (i : ℕ) → get_or (runners m k) i false ≡ true → i < m.table.count
   runners_inside i ran = inside i (listed_ran i ∙ ran)
@@ -67,7 +64,7 @@ module _ (m : Machine) (k : ℕ) (ok : sound m ≡ true) where
 
   few_listed : length (runner_order m n) ≤ k
   unfolding runner_count
-  few_listed = omega (arith, listed_length m (sound_passes m ok).count_fits n)
+  few_listed = omega (arith, listed_length m (sound_passes m ok).count_fits n (runners_open m k))
 
   few_ran : (c : ℕ) → sum_to c (λ i. bit (get_or (runners m k) i false)) ≤ k
   few_ran c =
@@ -82,7 +79,7 @@ module _ (m : Machine) (k : ℕ) (ok : sound m ≡ true) where
   unfolding slot_assignment
   all_assigned =
       assigned_all m.assigned k (runner_order m n)
-      (listed_distinct m (sound_passes m ok).count_fits n few)
+      (listed_distinct m (sound_passes m ok).count_fits n (runners_open m k))
       (record { inside = λ i e. omega (arith, inside i e, (sound_passes m ok).count_fits) })
       few_listed
       recorded_apart

@@ -1,5 +1,6 @@
 -- A slot task by task, as the code goes. Others cite `Turned`, the state after the first i tasks, with `turned_none` and `turned_more`, and
 -- `turned_all`, that after all of them it is the definition's answer.
+use Rattle.std.proofs.Common.{Ok}
 use Prim.Native.Nat.{ℕ, ◌+◌}
 use mathlib.Core.Path.{◌≡◌, refl, ap, ◌∙◌}
 use mathlib.Core.Bool.{Bool, false}
@@ -7,7 +8,6 @@ use mathlib.Core.List.{List}
 use native.Mathlib.Nat.{le_refl}
 use native.Mathlib.Numerals.{add-one}
 use lib.ListN.{get_or, set, replicate}
-use Rattle.tasks.specs.declared.outcome.Outcome.TheVariants.{Done}
 use Rattle.tasks.specs.Limits.{max_tasks}
 use Rattle.job.specs.Job.{fresh_job}
 use Rattle.machine.specs.Machine.{job_at}
@@ -80,13 +80,13 @@ pub turned_all :
     → Turned m₀ ran assigned m finished late m₀.table.count
     → n ≡ ran_count m₀ ran
     → ◌≡◌ {A = Answer}
-    (record { machine = m; outcome = Done; report = record { ran = ran; finished = finished; late = late; runners = n; assigned = assigned } })
-    (record { machine = with_assigned (after_slot m₀ ran) assigned; outcome = Done; report = slot_report m₀ ran assigned })
+    (record { machine = m; outcome = Ok tt; report = record { ran = ran; finished = finished; late = late; runners = n; assigned = assigned } })
+    (record { machine = with_assigned (after_slot m₀ ran) assigned; outcome = Ok tt; report = slot_report m₀ ran assigned })
 unfolding after_slot with_assigned slot_report
 turned_all m₀ ran assigned m finished late n t q =
     λ i. record {
       machine =
           record { table = t.same_table i; cores = t.same_cores i; jobs = t.jobs_are i; assigned = t.assigned_are i; held = t.same_held i };
-      outcome = Done;
+      outcome = Ok tt;
       report = record { ran = ran; finished = t.finished_are i; late = t.late_are i; runners = q i; assigned = assigned };
     }

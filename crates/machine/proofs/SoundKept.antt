@@ -1,6 +1,8 @@
 -- A start gives a sound machine or is refused (`start_sound`), and every call keeps a sound machine sound (`call_keeps`). So every machine of every
 -- list of calls from a start is sound and has the cores started on: `always_sound`. A slot of such a list is refused exactly where its cores are out of
 -- range (`slot_outcome`): no other refusal takes a slot out of the promise. A slot with given runners keeps a sound machine sound too: `slot_with_keeps`.
+use Rattle.tasks.specs.Refusals.{refusal}
+use Rattle.std.proofs.Common.{Ok, Err, Option, Some}
 use Prim.Native.Nat.{ℕ, ◌+◌, ◌-◌, ◌<◌}
 use mathlib.Core.Path.{◌≡◌, refl, sym, ◌∙◌}
 use mathlib.Core.Bool.{Bool, true, false, cond, ◌&&◌}
@@ -13,9 +15,8 @@ use Rattle.laws.proofs.CaseSplits.{by_order, by_equal, by_test}
 use Rattle.laws.proofs.Replaced.{replicate_entry}
 use Rattle.tasks.specs.declared.task.Task.{Task}
 use Rattle.tasks.specs.declared.table.Table.{Table}
-use Rattle.tasks.specs.declared.outcome.Outcome.TheVariants.{Done, Refused}
 use Rattle.tasks.specs.Limits.{max_tasks, max_cores}
-use Rattle.tasks.specs.Refusals.{slot_cores_out_of_range}
+use Rattle.tasks.specs.declared.refusals.Reason.TheVariants.{SlotCoresOutOfRange}
 use Rattle.tasks.specs.Check.{checked}
 use Rattle.tasks.specs.Table.{zero_task, with_task}
 use Rattle.tasks.specs.Outcome.{is_done}
@@ -30,8 +31,6 @@ use Rattle.machine.specs.Slot.{passed, after_slot}
 use Rattle.machine.specs.Cores.{with_assigned}
 use Rattle.machine.specs.Offer.{held_sound}
 use Rattle.machine.specs.Sound.{sound}
-use Rattle.machine.specs.declared.held.Held.{Held}
-use Rattle.machine.specs.declared.held.Held.TheVariants.{Offered}
 use Rattle.machine.specs.Calls.{done, refuse, start_after, start, slot_cores_in_range, slot, slot_with, with_joined, step}
 use Rattle.machine.specs.Play.{machine_after}
 use Rattle.machine.specs.declared.machine.Machine.{Machine}
@@ -113,14 +112,14 @@ module _ (m : Machine) (ok : sound m ≡ true) where
       })
 
   -- whatever is held, if an offer of it passes
-  holding_keeps : (held : Held) → held_sound held m.table m.cores ≡ true → SoundOn m.cores (holding m held)
+  holding_keeps : (held : Option Task) → held_sound held m.table m.cores ≡ true → SoundOn m.cores (holding m held)
   unfolding holding task_at job_at
   holding_keeps held fits =
       record { is_sound = make_sound (holding m held) (sound_checks m ok) (sound_job m ok) (sound_cores m ok) fits; cores_are_lem = refl }
 
-  offer_keeps : (t : Task) → OfferTaken m t → SoundOn m.cores (holding m (Offered t))
+  offer_keeps : (t : Task) → OfferTaken m t → SoundOn m.cores (holding m (Some t))
   unfolding held_sound is_done
-  offer_keeps t taken = holding_keeps (Offered t) (rw taken.passes)
+  offer_keeps t taken = holding_keeps (Some t) (rw taken.passes)
 
   -- the tasks that a longer table had, with their jobs, and the new one
   module _ (t : Task) where
@@ -148,7 +147,7 @@ module _ (m : Machine) (ok : sound m ≡ true) where
   pub call_keeps : (call : Call) → SoundOn m.cores (step m call).machine
   call_keeps =
       by_call m (λ call answer. SoundOn m.cores answer.machine)
-      (λ call number place told. record { is_sound = ok; cores_are_lem = refl })
+      (λ call why told. record { is_sound = ok; cores_are_lem = refl })
       release_keeps
       finish_keeps
       slot_keeps
@@ -158,11 +157,11 @@ module _ (m : Machine) (ok : sound m ≡ true) where
 -- a start is refused where its table or its cores are
 pub start_outcome : (t : Table) (cores : ℕ) → (start t cores).outcome ≡ checked t cores
 unfolding start start_after done
-start_outcome t cores = by_outcome (checked t cores) (λ e. rw e) (λ number place e. rw e)
+start_outcome t cores = by_outcome (checked t cores) (λ e. rw e) (λ why e. rw e)
 
 -- the start is not refused
-module _ (t : Table) (cores : ℕ) (starts : (start t cores).outcome ≡ Done) where
-  checks : checked t cores ≡ Done
+module _ (t : Table) (cores : ℕ) (starts : (start t cores).outcome ≡ Ok tt) where
+  checks : checked t cores ≡ Ok tt
   checks = sym (start_outcome t cores) ∙ starts
 
   pub start_sound : SoundOn cores (start t cores).machine
@@ -189,7 +188,7 @@ module _ (t : Table) (cores : ℕ) (starts : (start t cores).outcome ≡ Done) w
   pub slot_outcome :
       (calls : List Call) (k : ℕ)
       → (slot (machine_after (start t cores).machine calls) k).outcome
-      ≡ cond (leb cores k && leb k max_cores) Done (Refused slot_cores_out_of_range 0)
+      ≡ cond (leb cores k && leb k max_cores) (Ok tt) (Err (refusal SlotCoresOutOfRange 0))
   unfolding slot slot_cores_in_range refuse
   slot_outcome calls k =
       let on = always_sound calls in

@@ -1,8 +1,10 @@
--- What a sound machine is. Others cite: `one_unsound`, and `make_sound`, from its table, cores, jobs, recorded cores and held task; `sound_checks` and `sound_passes`,
--- that its table and cores pass `checked`; `sound_fits`, that its tasks are well formed; `sound_job`, that each job is sound; `sound_closed`, that a
+-- What a sound machine is. Others cite: `checked_fits`, of its table; `one_unsound`, and `make_sound`, from its table, cores, jobs, recorded cores and held task; `sound_checks` and `sound_passes`,
+-- that its table and cores pass `checked`; `sound_count`, that it has 32 tasks at most; `sound_fits`, that its tasks are well formed; `sound_job`, that each job is sound; `sound_closed`, that a
 -- closed task has no job; `sound_free`, that a task without a gap is closed; `sound_small`, that the left and budget of an open one are below 2^20;
--- `sound_cores`, that its recorded cores are sound; `sound_held`, that what it holds is; and `held_fits`, that an offer of the held task passes.
-use Prim.Native.Nat.{ℕ, zero, suc, ◌<◌}
+-- `sound_cores`, that its recorded cores are sound; `sound_held`, that what it holds is; `held_fits`, that an offer of the held task passes; and `held_room`, that
+-- there is room for it.
+use Rattle.std.proofs.Common.{Ok, Some, is_err}
+use Prim.Native.Nat.{ℕ, zero, suc, ◌≤◌, ◌<◌}
 use mathlib.Core.Path.{◌≡◌, refl}
 use mathlib.Core.Bool.{true, false, ◌&&◌}
 use lib.ListN.{take}
@@ -12,13 +14,14 @@ use Rattle.laws.proofs.Booleans.{and_left, and_right}
 use Rattle.edzl.proofs.WellFormed.{WellFormed}
 use Rattle.edzl.proofs.Invariant.{NoJob}
 use Rattle.tasks.specs.declared.task.Task.{Task}
-use Rattle.tasks.specs.declared.outcome.Outcome.TheVariants.{Done}
+use Rattle.tasks.specs.declared.table.Table.{Table}
+use Rattle.tasks.specs.Limits.{max_tasks}
 use Rattle.tasks.specs.Check.{checked}
 use Rattle.tasks.specs.Outcome.{is_done}
 use Rattle.tasks.specs.TaskSet.{tasks_of}
 use Rattle.tasks.proofs.Checked.{Passes, passes}
 use Rattle.tasks.proofs.Range.{range_of}
-use Rattle.tasks.proofs.OutcomeLaws.{is_done_lem}
+use Rattle.tasks.proofs.OutcomeLaws.{by_outcome, done_where_true}
 use Rattle.tasks.proofs.TaskSetLaws.{well_checked}
 use Rattle.job.specs.Sound.{job_sound}
 use Rattle.cores.specs.Record.{cores_sound}
@@ -27,10 +30,14 @@ use Rattle.job.proofs.SoundLaws.{closed_numbers, open_numbers, free_closed}
 use Rattle.machine.specs.Machine.{task_at, job_at}
 use Rattle.machine.specs.Offer.{held_sound}
 use Rattle.machine.specs.Sound.{jobs_sound, sound}
-use Rattle.machine.specs.declared.held.Held.TheVariants.{Offered}
 use Rattle.machine.specs.declared.machine.Machine.{Machine}
 use Rattle.machine.proofs.State.{jobs_of}
 use Rattle.machine.proofs.OfferLaws.{OfferFits, offer_fits}
+
+-- a table that a start would not refuse has 32 tasks at most
+pub checked_fits : (t : Table) (cores : ℕ) → is_err (checked t cores) ≡ false → t.count ≤ max_tasks
+checked_fits t cores e =
+    by_outcome (checked t cores) (λ done. (passes t cores done).count_fits) (λ why refused. not_both _ refl (rw refused at e))
 
 each_sound : (m : Machine) (n : ℕ) → jobs_sound m n ≡ true → (i : ℕ) → i < n → job_sound (task_at m i) (job_at m i) ≡ true
 unfolding jobs_sound
@@ -52,7 +59,7 @@ all_sound m zero each = refl
 all_sound m (suc n) each = rw (all_sound m n (λ i h. each i (omega arith)), each n (omega arith))
 
 pub make_sound :
-    (m : Machine) → checked m.table m.cores ≡ Done
+    (m : Machine) → checked m.table m.cores ≡ Ok tt
     → ((i : ℕ) → i < m.table.count → job_sound (task_at m i) (job_at m i) ≡ true)
     → cores_sound (take m.table.count m.assigned) ≡ true
     → held_sound m.held m.table m.cores ≡ true
@@ -70,8 +77,8 @@ module _ (m : Machine) (ok : sound m ≡ true) where
   before_cores : (is_done (checked m.table m.cores) && jobs_sound m m.table.count) ≡ true
   before_cores = and_left _ (cores_sound (take m.table.count m.assigned)) before_held
 
-  pub sound_checks : checked m.table m.cores ≡ Done
-  sound_checks = is_done_lem _ (and_left _ _ before_cores)
+  pub sound_checks : checked m.table m.cores ≡ Ok tt
+  sound_checks = done_where_true _ (and_left _ _ before_cores)
 
   pub sound_cores : cores_sound (take m.table.count m.assigned) ≡ true
   sound_cores = and_right (is_done (checked m.table m.cores) && jobs_sound m m.table.count) _ before_held
@@ -81,12 +88,18 @@ module _ (m : Machine) (ok : sound m ≡ true) where
   sound_held =
       and_right (is_done (checked m.table m.cores) && jobs_sound m m.table.count && cores_sound (take m.table.count m.assigned)) _ ok
 
-  pub held_fits : (t : Task) → m.held ≡ Offered t → OfferFits m.table m.cores t
+  pub held_fits : (t : Task) → m.held ≡ Some t → OfferFits m.table m.cores t
   unfolding held_sound
-  held_fits t e = offer_fits m.table m.cores t (is_done_lem _ (rw e at sound_held))
+  held_fits t e = offer_fits m.table m.cores t (done_where_true _ (rw e at sound_held))
+
+  pub held_room : (t : Task) → m.held ≡ Some t → m.table.count < max_tasks
+  held_room t e = (held_fits t e).room
 
   pub sound_passes : Passes m.table m.cores
   sound_passes = passes m.table m.cores sound_checks
+
+  pub sound_count : m.table.count ≤ max_tasks
+  sound_count = sound_passes.count_fits
 
   pub sound_fits : WellFormed (tasks_of m.table)
   sound_fits = well_checked m.table m.cores sound_checks

@@ -1,4 +1,5 @@
--- The number of a task of a sound machine: `KnownTask`, and `known_task`. Its index is within the table and the arrays.
+-- The number of a task of a sound machine: `KnownTask`, and `known_task`. Its index is within the table and the arrays; for code, `number_some` and
+-- `index_fits` say so too.
 use Prim.Native.Nat.{ℕ, ◌-◌, ◌≤◌, ◌<◌}
 use native.Mathlib.Omega.{arith}
 use mathlib.Core.Path.{◌≡◌}
@@ -30,3 +31,9 @@ known_task m number is_sound in_table_lem =
       inside = omega arith;
       index = omega (arith, (sound_passes m is_sound).count_fits);
     }
+
+pub number_some : (m : Machine) (number : ℕ) → sound m ≡ true → in_table m number ≡ true → 1 ≤ number
+number_some m number is_sound in_table_lem = (known_task m number is_sound in_table_lem).some
+
+pub index_fits : (m : Machine) (number : ℕ) → sound m ≡ true → in_table m number ≡ true → number - 1 < 32
+index_fits m number is_sound in_table_lem = (known_task m number is_sound in_table_lem).index

@@ -1,10 +1,10 @@
 -- Logs made by hand, and what the claim of demand 3 says of them, as entries of a list of computed tests: so that a weaker reading of
 -- slots, of closing or of the table does not go unseen. `all_true` of crate laws is the test, and the theorem stands in proofs/ClaimsHold.antt.
-use Rattle.std.specs.Prelude.{ℕ, Bool, true, false, not, List, [], ◌∷◌, ◌++◌, eqb, get_or, replicate}
+use Rattle.std.specs.Prelude.{ℕ, Bool, true, false, not, List, [], ◌∷◌, ◌++◌, eqb, get_or, replicate, Ok, Err}
 use Rattle.laws.specs.Sums.{bit}
 use Rattle.tasks.specs.declared.table.Table.{Table}
-use Rattle.tasks.specs.declared.outcome.Outcome.TheVariants.{Done, Refused}
-use Rattle.tasks.specs.Refusals.{unsound_machine}
+use Rattle.tasks.specs.declared.refusals.Reason.TheVariants.{UnsoundMachine, SlotCoresOutOfRange}
+use Rattle.tasks.specs.Refusals.{refusal}
 use Rattle.tasks.specs.Table.{zero_task}
 use Rattle.tasks.specs.Written.{task, table_of}
 use Rattle.machine.specs.Slot.{no_report}
@@ -18,7 +18,7 @@ unfoldable pub slot_of : (ran finished : Bool) → Entry
 slot_of ran finished =
     record {
       call = Slot 1;
-      outcome = Done;
+      outcome = Ok tt;
       report = record { ran = ran ∷ []; finished = finished ∷ []; late = []; runners = bit ran; assigned = [] };
     }
 
@@ -36,11 +36,11 @@ ran_last = slot_of true true
 
 -- an accepted call that is no slot
 unfoldable pub accepted_call : Call → Entry
-accepted_call call = record { call = call; outcome = Done; report = no_report }
+accepted_call call = record { call = call; outcome = Ok tt; report = no_report }
 
 -- a refused call
 unfoldable pub refused_call : Call → Entry
-refused_call call = record { call = call; outcome = Refused unsound_machine 0; report = no_report }
+refused_call call = record { call = call; outcome = Err (refusal UnsoundMachine 0); report = no_report }
 
 -- whether the claim takes a job of task 1 for closed in a log after its release
 unfoldable pub closed_in : (need deadline : ℕ) → List Entry → Bool
@@ -76,7 +76,7 @@ claims =
     closed_in 2 2 (ran_last ∷ ran_last ∷ []) ∷
     not (closed_in 1 1 (slot_of false true ∷ [])) ∷
     -- what a refused slot says does not count
-    closed_in 1 1 (record { call = Slot 1; outcome = Refused 14 0; report = ran_on.report } ∷ ran_last ∷ []) ∷
+    closed_in 1 1 (record { call = Slot 1; outcome = Err (refusal SlotCoresOutOfRange 0); report = ran_on.report } ∷ ran_last ∷ []) ∷
     -- no other call counts as a slot or as a finish
     closed_in 1 2 (accepted_call (Release 2 1) ∷ idle ∷ ran_last ∷ []) ∷
     not (closed_in 1 1 (accepted_call (Release 1 1) ∷ idle ∷ [])) ∷

@@ -1,14 +1,13 @@
 -- The claim of demand 3, read from the table started on, the calls and their answers only: document 01, "The slot machine", the paragraph
 -- that begins "Demand 3 is a single claim". Tasks are named by their number, from 1.
-use Rattle.std.specs.Prelude.{ℕ, suc, ◌-◌, ◌≤◌, ◌≡◌, Bool, true, false, cond, ◌&&◌, ◌||◌, List, [], ◌∷◌, ◌++◌, eqb, leb, get_or}
+use Rattle.std.specs.Prelude.{ℕ, suc, ◌-◌, ◌≤◌, ◌≡◌, Bool, true, false, cond, ◌&&◌, ◌||◌, List, [], ◌∷◌, ◌++◌, eqb, leb, get_or, Option, Some, None}
+use Rattle.tasks.specs.declared.task.Task.{Task}
 use Rattle.tasks.specs.declared.table.Table.{Table}
 use Rattle.tasks.specs.Table.{zero_task, with_task}
 use Rattle.tasks.specs.Outcome.{is_done}
 use Rattle.judge.specs.SlackJudge.{admission}
 use Rattle.machine.specs.Calls.{start}
 use Rattle.machine.specs.Play.{Entry, play}
-use Rattle.machine.specs.declared.held.Held.{Held}
-use Rattle.machine.specs.declared.held.Held.TheVariants.{None, Offered}
 use Rattle.machine.specs.declared.call.Call.{Call}
 use Rattle.machine.specs.declared.answer.Answer.{Answer}
 use Rattle.machine.specs.declared.call.Call.TheVariants.{Release, Finish, Slot, Offer, Commit}
@@ -75,20 +74,20 @@ closed_by_slot number need deadline after =
 -- what a log tells at a point of it: the table, and the task of the last accepted offer since the last accepted commit, if there is one
 pub record Point : Type 0 where
   pub table : Table
-  pub offered : Held
+  pub offered : Option Task
 
 -- the table after a commit of what is offered: document 02, change 10, "Commit adds the held task"; from a start none is accepted without an accepted offer
 -- since the last accepted commit
-unfoldable pub with_offered : Held → Table → Table
+unfoldable pub with_offered : Option Task → Table → Table
 with_offered None t = t
-with_offered (Offered task) t = with_task t task
+with_offered (Some task) t = with_task t task
 
 -- the point after an accepted call: an offer is "displacing an earlier offer", and a commit "adds the held task and holds none"
 unfoldable pub point_by : Call → Point → Point
 point_by (Release number need) p = p
 point_by (Finish number) p = p
 point_by (Slot k) p = p
-point_by (Offer task) p = record { table = p.table; offered = Offered task }
+point_by (Offer task) p = record { table = p.table; offered = Some task }
 point_by Commit p = record { table = with_offered p.offered p.table; offered = None }
 
 -- the point after some calls, refused ones among them

@@ -1,12 +1,10 @@
 -- The machine: document 01, "The slot machine".
-use Rattle.std.specs.Prelude.{ℕ, Bool, ◌&&◌, leb, get_or, set, replicate}
+use Rattle.std.specs.Prelude.{ℕ, Bool, ◌&&◌, leb, get_or, set, replicate, Option, None}
 use Rattle.tasks.specs.declared.task.Task.{Task}
 use Rattle.tasks.specs.Limits.{max_tasks}
 use Rattle.tasks.specs.Table.{empty_table, zero_task}
 use Rattle.job.specs.declared.job.Job.{Job}
 use Rattle.job.specs.Job.{fresh_job}
-use Rattle.machine.specs.declared.held.Held.{Held}
-use Rattle.machine.specs.declared.held.Held.TheVariants.{None}
 use Rattle.machine.specs.declared.machine.Machine.{Machine}
 
 -- "a machine of zeros", which holds no task
@@ -30,7 +28,7 @@ unfoldable pub with_job : Machine → ℕ → Job → Machine
 with_job m i j = record { table = m.table; cores = m.cores; jobs = set m.jobs i j; assigned = m.assigned; held = m.held }
 
 -- the machine that holds this task, or none: document 02, change 10
-unfoldable pub holding : Machine → Held → Machine
+unfoldable pub holding : Machine → Option Task → Machine
 holding m held = record { table = m.table; cores = m.cores; jobs = m.jobs; assigned = m.assigned; held = held }
 
 -- "The task number is not in the table", the other way round

@@ -1,5 +1,5 @@
 -- The pick of a slot's runners: document 01, "The slot machine", with the slot's own number of cores, k, of document 02, change 1.
-use Rattle.std.specs.Prelude.{ℕ, zero, suc, min, Bool, true, false, not, ◌&&◌, List, get_or, set, replicate}
+use Rattle.std.specs.Prelude.{ℕ, zero, suc, min, Bool, true, false, not, ◌&&◌, List, get_or, set, replicate, Option, Some, None}
 use Rattle.laws.specs.Sums.{sum_to, bit}
 use Rattle.tasks.specs.Limits.{max_tasks}
 use Rattle.job.specs.Precedence.{job_precedes}
@@ -23,10 +23,10 @@ precedes m i j = job_precedes (job_at m i) i (job_at m j) j
 unfoldable pub candidates : Machine → (picked : List Bool) → Candidates
 candidates m picked = record { count = m.table.count; waits = waiting m picked; precedes = precedes m }
 
--- the picks with that of the task of this number; 0 names no task
-unfoldable pub with_picked : List Bool → (number : ℕ) → List Bool
-with_picked picked zero = picked
-with_picked picked (suc i) = set picked i true
+-- the picks with that of the task at this index, if there is one
+unfoldable pub with_picked : List Bool → Option ℕ → List Bool
+with_picked picked None = picked
+with_picked picked (Some i) = set picked i true
 
 -- the first n open tasks in precedence, all of them where fewer are open: each pick is the next runner among those not yet picked
 unfoldable pub pick : Machine → (n : ℕ) → List Bool

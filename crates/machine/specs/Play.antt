@@ -1,6 +1,6 @@
 -- A list of calls played on a machine: document 01, "The slot machine". `play` gives what is answered, `machine_after` the machine after it.
 use Rattle.std.specs.Prelude.{List, [], ◌∷◌}
-use Rattle.tasks.specs.declared.outcome.Outcome.{Outcome}
+use Rattle.tasks.specs.Outcome.{Outcome}
 use Rattle.machine.specs.Calls.{step}
 use Rattle.machine.specs.declared.machine.Machine.{Machine}
 use Rattle.machine.specs.declared.call.Call.{Call}

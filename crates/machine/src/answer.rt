@@ -7,6 +7,7 @@ use crate::machine::Machine;
 use tasks::flags::Flags;
 use tasks::limits::MAX_TASKS;
 use tasks::outcome::Outcome;
+use tasks::refusals::Reason;
 use tasks::table::PerTask;
 
 // What a slot says of each task, how many ran, and the core of each runner, 0 for every other task. Every other call, and a refused slot, says nothing
@@ -20,7 +21,8 @@ pub struct Report {
     pub assigned: PerTask,
 }
 
-// The machine after the call, whether the call was carried out, and a slot's report.
+// The machine after the call, whether the call was carried out, and a slot's report: the struct of machine and outcome that document 01 names, in which a
+// refused call too hands back its machine.
 #[derive(Clone, Copy)]
 pub struct Answer {
     pub machine: Machine,
@@ -30,6 +32,7 @@ pub struct Answer {
 
 impl Report {
     // A report that names no task.
+    #[tactic(auto, unfolding(crate::specs::Slot::no_report))]
     pub fn none() -> Self
         ensures { result ≡ no_report }
     {
@@ -45,26 +48,26 @@ impl Report {
 
 impl Answer {
     // A call that was carried out and reports nothing.
+    #[tactic(auto, unfolding(crate::specs::Calls::done))]
     pub fn done(machine: Machine) -> Self
         ensures { result ≡ done machine }
     {
-        let report = Report::none();
         Answer {
             machine,
-            outcome: Outcome::Done,
-            report,
+            outcome: Ok(()),
+            report: Report::none(),
         }
     }
 
     // A call that was refused and left the machine as it was.
-    pub fn refused(machine: Machine, number: u32) -> Self
-        ensures { result ≡ refuse machine number }
+    #[tactic(auto, unfolding(crate::specs::Calls::refuse))]
+    pub fn refused(machine: Machine, reason: Reason) -> Self
+        ensures { result ≡ refuse machine reason }
     {
-        let report = Report::none();
         Answer {
             machine,
-            outcome: Outcome::Refused { number, place: 0 },
-            report,
+            outcome: Err(reason.at(0)),
+            report: Report::none(),
         }
     }
 }

@@ -19,6 +19,7 @@ pub enum Call {
 
 impl Machine {
     // What a call does to the machine, and what it answers.
+    #[tactic(auto, unfolding(crate::specs::Calls::step))]
     pub fn step(self, call: Call) -> Answer
         ensures { result ≡ step self call }
     {

@@ -7,65 +7,44 @@ ghost use Rattle.machine.specs.Machine.{holding};
 ghost use Rattle.machine.specs.Offer.{offer_verdict};
 
 use crate::machine::Machine;
-use judge::admission::Admission;
+use judge::admission::admit;
 use tasks::limits::MAX_TASKS;
-use tasks::refusals::{TABLE_FULL, TASK_OUT_OF_RANGE};
+use tasks::refusals::{Reason, Refusal};
 use tasks::table::Table;
 use tasks::task::Task;
 
-// No task, or the one of the last accepted offer.
-#[derive(Clone, Copy)]
-pub enum Held {
-    None,
-    Offered(Task),
-}
-
 impl Machine {
     // The machine that holds this, in place of what it held.
-    pub fn holding(self, held: Held) -> Self
+    #[tactic(auto, unfolding(crate::specs::Machine::holding))]
+    pub fn holding(self, held: Option<Task>) -> Self
         ensures { result ≡ holding self held }
     {
-        let table = self.table;
-        let jobs = self.jobs;
-        let assigned = self.assigned;
-        Machine {
-            table,
-            cores: self.cores,
-            jobs,
-            assigned,
-            held,
-        }
+        Machine { held, ..self }
     }
 
     // The table with the task at its end.
+    #[tactic(auto, unfolding(tasks::specs::Table::with_task))]
     pub(crate) fn longer_table(self, task: Task) -> Table
         requires { self.table.count < max_tasks }
         ensures { result ≡ with_task self.table task }
     {
         let mut table = self.table;
-        let count = table.count;
-        table.tasks[count] = task;
-        table.count = count + 1;
+        table.tasks[table.count] = task;
+        table.count += 1;
         table
     }
 
     // The slack test's verdict on the table with the offered task, or the refusal by 5 or 12. What is held plays no part.
-    pub(crate) fn offer_verdict(self, task: Task) -> Admission
+    #[tactic(auto, unfolding(crate::specs::Offer::offer_verdict))]
+    pub(crate) fn offer_verdict(self, task: Task) -> Result<bool, Refusal>
         ensures { admission_values_of result ≡ offer_verdict self.table self.cores task }
     {
         if !task.in_range() {
-            return Admission::Refused {
-                number: TASK_OUT_OF_RANGE,
-                place: 0,
-            };
+            return Err(Reason::TaskOutOfRange.at(0));
         }
         if MAX_TASKS <= self.table.count {
-            return Admission::Refused {
-                number: TABLE_FULL,
-                place: 0,
-            };
+            return Err(Reason::TableFull.at(0));
         }
-        let longer = self.longer_table(task);
-        judge::admission::admit(longer, self.cores)
+        admit(self.longer_table(task), self.cores)
     }
 }

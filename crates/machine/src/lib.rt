@@ -5,7 +5,7 @@ pub mod answer;
 pub mod call;
 mod commit;
 mod finish;
-pub mod held;
+mod held;
 pub mod machine;
 mod offer;
 mod pick;

@@ -5,6 +5,7 @@ use native.Mathlib.Omega.{arith}
 use mathlib.Core.Path.{◌≡◌, refl, ap}
 use mathlib.Core.Bool.{Bool, true, and-false}
 use mathlib.Core.List.{List, [], ◌∷◌}
+use Rattle.std.proofs.Common.{Option, Some, None}
 use lib.ListN.{length, take, length-drop}
 use Rattle.laws.proofs.CaseSplits.{by_test, by_order}
 use Rattle.laws.proofs.Booleans.{and_left, and_right}
@@ -18,7 +19,6 @@ use Rattle.machine.specs.declared.call.Call.{Call}
 use Rattle.machine.specs.declared.machine.Machine.{Machine}
 use Rattle.script.specs.Numbers.{max_digits, max_number}
 use Rattle.script.specs.Calls.{fields_task, call_of}
-use Rattle.script.specs.declared.calls.CallLine.{CallLine}
 use Rattle.script.proofs.CallLaws.{longest_call, call_short}
 use Rattle.tasks.specs.Limits.{max_tasks}
 use Rattle.probe.specs.Words.{machine_word, none_word, held_word}
@@ -79,15 +79,15 @@ empty_same zero s h = absurd (omega arith)
 empty_same (suc j) [] h = refl
 empty_same (suc j) (x ∷ s) h = refl
 
-only_same : (c : CallLine) (j : ℕ) (s : List ℕ) → ((call : Call) → c ≡ CallLine.Read call → 0 < j) → only_call c (take j s) ≡ only_call c s
+only_same : (c : Option Call) (j : ℕ) (s : List ℕ) → ((call : Call) → c ≡ Some call → 0 < j) → only_call c (take j s) ≡ only_call c s
 unfolding only_call
-only_same (CallLine.Read call) j s h = rw (empty_same j s (h call refl))
-only_same CallLine.Bad j s h = refl
+only_same (Some call) j s h = rw (empty_same j s (h call refl))
+only_same None j s h = refl
 
-only_none : (c : CallLine) (s t : List ℕ) → ((call : Call) → c ≡ CallLine.Read call → ⊥) → only_call c s ≡ only_call CallLine.Bad t
+only_none : (c : Option Call) (s t : List ℕ) → ((call : Call) → c ≡ Some call → ⊥) → only_call c s ≡ only_call None t
 unfolding only_call
-only_none (CallLine.Read call) s t n = absurd (n call refl)
-only_none CallLine.Bad s t n = refl
+only_none (Some call) s t n = absurd (n call refl)
+only_none None s t n = refl
 
 -- of the last line and what follows it those of a call, its byte 10, and one byte more
 abbrev last_length : ℕ

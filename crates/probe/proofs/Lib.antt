@@ -1,5 +1,5 @@
+pub mod Missing
 pub mod InputLaws
-pub mod Filling
 pub mod Showing
 pub mod PrintedLaws
 pub mod Cut

@@ -1,7 +1,7 @@
 -- The lines of the input (docs/HANDBOOK.md, "Probing one call"): "a line `MACHINE count cores`, then 32 lines of eight numbers `PERIOD BUDGET
 -- DEADLINE OPEN LEFT OWED GAP CORE` .., then a line `NONE`, or `HELD T C D` for the task that the machine holds, then one call line as in replay, and
 -- nothing after it".
-use Rattle.std.specs.Prelude.{ℕ, ◌+◌, List, Bool, cond, ◌&&◌, ◌||◌, eqb, leb, length, drop, set, replicate}
+use Rattle.std.specs.Prelude.{ℕ, ◌≡◌, ◌+◌, ◌<◌, List, Bool, true, false, cond, ◌&&◌, ◌||◌, eqb, leb, length, drop, set, replicate, Option, Some, None, Result, Ok, Err}
 use Rattle.text.specs.Lines.{line_end, has, before, after, first_is, is_empty, field}
 use Rattle.text.specs.Words.{same_bytes, begins_with}
 use Rattle.text.specs.Number.{decimal}
@@ -11,19 +11,14 @@ use Rattle.tasks.specs.Table.{zero_task}
 use Rattle.tasks.specs.declared.task.Task.{Task}
 use Rattle.job.specs.Job.{fresh_job}
 use Rattle.job.specs.declared.job.Job.{Job}
-use Rattle.machine.specs.declared.held.Held.{Held}
-use Rattle.machine.specs.declared.held.Held.TheVariants.{None, Offered}
+use Rattle.machine.specs.declared.call.Call.{Call}
 use Rattle.machine.specs.declared.machine.Machine.{Machine}
 use Rattle.script.specs.Numbers.{max_digits, max_number}
 use Rattle.script.specs.Calls.{fields_task, call_of}
-use Rattle.script.specs.declared.calls.CallLine.{CallLine}
 use Rattle.probe.specs.Words.{machine_word, none_word, held_word}
 use Rattle.probe.specs.declared.input.FirstLine.{FirstLine}
-use Rattle.probe.specs.declared.input.FirstLine.TheVariants as First
 use Rattle.probe.specs.declared.input.EntryLine.{EntryLine}
-use Rattle.probe.specs.declared.input.EntryLine.TheVariants as Entry
 use Rattle.probe.specs.declared.input.HeldLine.{HeldLine}
-use Rattle.probe.specs.declared.input.Asked.{Asked}
 
 -- "`MACHINE count cores`", where "count and cores are such numbers"
 unfoldable pub is_machine_line : List ℕ → Bool
@@ -77,21 +72,34 @@ unfoldable pub is_held_line : List ℕ → Bool
 is_held_line l = same_bytes l none_word || (begins_with held_word l && are_numbers max_digits max_number 3 (drop (length held_word) l))
 
 -- what such a line says that the machine holds
-unfoldable pub held_of : List ℕ → Held
-held_of l = cond (same_bytes l none_word) None (Offered (fields_task (drop (length held_word) l)))
+unfoldable pub held_of : List ℕ → Option Task
+held_of l = cond (same_bytes l none_word) None (Some (fields_task (drop (length held_word) l)))
 
--- for the contract of a private function: what the first line of a text says as the machine's, and how many bytes it has with its byte 10
-unfoldable pub first_line : List ℕ → FirstLine
+-- for the contract of a private function: the first line of a text has no byte 10
+pub record NotEnded (s : List ℕ) : Type 0 where
+  pub none : has line_end s ≡ false
+
+-- or it is this line
+pub record FirstLineIs (s l : List ℕ) : Type 0 where
+  pub ended : has line_end s ≡ true
+  pub is : l ≡ before line_end s
+  pub within : length l < length s
+
+-- for the contract of another: what the first line of a text says as the machine's, and how many bytes it has with its byte 10
+unfoldable pub first_line : List ℕ → Option FirstLine
 first_line s =
-    let l = before line_end s in cond (first_is is_machine_line s) (First.Read (count_of l) (cores_of l) (length l + 1)) First.Bad
+    let l = before line_end s in
+    cond (first_is is_machine_line s) (Some (record { count = count_of l; cores = cores_of l; length = length l + 1 })) None
 
--- for the contract of another: what the first line of a text says as an entry's, and how many bytes it has with its byte 10
-unfoldable pub entry_from : List ℕ → EntryLine
-entry_from s = let l = before line_end s in cond (first_is is_entry_line s) (Entry.Read (fields_task l) (entry_job l) (entry_core l) (length l + 1)) Entry.Bad
+-- for the contract of a third: what the first line of a text says as an entry's, and how many bytes it has with its byte 10
+unfoldable pub entry_from : List ℕ → Option EntryLine
+entry_from s =
+    let l = before line_end s in
+    cond (first_is is_entry_line s) (Some (record { task = fields_task l; job = entry_job l; core = entry_core l; length = length l + 1 })) None
 
--- for the contract of a third: what the first line of a text says that the machine holds, and how many bytes it has with its byte 10
-unfoldable pub held_from : List ℕ → HeldLine
-held_from s = let l = before line_end s in cond (first_is is_held_line s) (HeldLine.Read (held_of l) (length l + 1)) HeldLine.Bad
+-- for the contract of a fourth: what the first line of a text says that the machine holds, and how many bytes it has with its byte 10
+unfoldable pub held_from : List ℕ → Option HeldLine
+held_from s = let l = before line_end s in cond (first_is is_held_line s) (Some (record { held = held_of l; length = length l + 1 })) None
 
 -- the number of the line of what the machine holds: the line of the machine and one for each entry stand before it
 abbrev pub held_number : ℕ
@@ -101,11 +109,11 @@ held_number = 1 + max_tasks + 1
 abbrev pub call_number : ℕ
 call_number = held_number + 1
 
--- the call of the last line, after which nothing may follow: "after 35 good lines anything that follows is line 36"
-unfoldable pub only_call : CallLine → (following : List ℕ) → Asked
-only_call (CallLine.Read call) following = cond (is_empty following) (Asked.Read call) (Asked.Bad (call_number + 1))
-only_call CallLine.Bad following = Asked.Bad call_number
+-- the call of the last line, after which nothing may follow, or the number of the bad line: "after 35 good lines anything that follows is line 36"
+unfoldable pub only_call : Option Call → (following : List ℕ) → Result Call ℕ
+only_call (Some call) following = cond (is_empty following) (Ok call) (Err (call_number + 1))
+only_call None following = Err call_number
 
 -- the same of a text that begins with the last line: it is bad too where it "is not ended, or is missing"
-unfoldable pub last_line : List ℕ → Asked
-last_line s = cond (has line_end s) (only_call (call_of (before line_end s)) (after line_end s)) (Asked.Bad call_number)
+unfoldable pub last_line : List ℕ → Result Call ℕ
+last_line s = cond (has line_end s) (only_call (call_of (before line_end s)) (after line_end s)) (Err call_number)

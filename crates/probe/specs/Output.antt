@@ -1,6 +1,6 @@
 -- The lines of a machine (docs/HANDBOOK.md, "Probing one call"): "`MACHINE count cores`, 32 lines of eight numbers, and `NONE` or `HELD
 -- T C D`".
-use Rattle.std.specs.Prelude.{ℕ, zero, suc, ◌+◌, ◌*◌, List, [], ◌∷◌, ◌++◌, cond, length}
+use Rattle.std.specs.Prelude.{ℕ, zero, suc, ◌+◌, ◌*◌, List, [], ◌∷◌, ◌++◌, cond, length, Option, Some, None}
 use Rattle.text.specs.Lines.{line_end}
 use Rattle.text.specs.Output.{numbers_line}
 use Rattle.tasks.specs.Limits.{max_tasks}
@@ -8,8 +8,6 @@ use Rattle.tasks.specs.declared.task.Task.{Task}
 use Rattle.job.specs.declared.job.Job.{Job}
 use Rattle.machine.specs.Machine.{task_at, job_at, core_at}
 use Rattle.machine.specs.declared.machine.Machine.{Machine}
-use Rattle.machine.specs.declared.held.Held.{Held}
-use Rattle.machine.specs.declared.held.Held.TheVariants.{None, Offered}
 use Rattle.probe.specs.Words.{machine_word, none_word, held_word}
 
 -- "`PERIOD BUDGET DEADLINE OPEN LEFT OWED GAP CORE`"
@@ -22,9 +20,9 @@ entry_lines m i zero = []
 entry_lines m i (suc more) = entry_line (task_at m i) (job_at m i) (core_at m i) ++ entry_lines m (suc i) more
 
 -- "`NONE` or `HELD T C D`"
-unfoldable pub held_line : Held → List ℕ
+unfoldable pub held_line : Option Task → List ℕ
 held_line None = none_word ++ line_end ∷ []
-held_line (Offered t) = held_word ++ numbers_line (t.period ∷ t.budget ∷ t.deadline ∷ [])
+held_line (Some t) = held_word ++ numbers_line (t.period ∷ t.budget ∷ t.deadline ∷ [])
 
 -- all lines of a machine, those of the entries "past the count too"
 unfoldable pub machine_lines : Machine → List ℕ

@@ -11,23 +11,25 @@ use Rattle.text.specs.Words.{same_bytes}
 use Rattle.text.proofs.Split.{cut}
 use Rattle.text.proofs.FirstLine.{not_ended_lem, first_is_lem}
 use Rattle.tasks.specs.Limits.{max_tasks, max_text_length}
-use Rattle.tasks.specs.Refusals.{text_too_long, bad_names_line}
+use Rattle.std.proofs.Common.{Err}
+use Rattle.tasks.specs.Refusals.{refusal}
+use Rattle.tasks.specs.declared.refusals.Reason.TheVariants.{TextTooLong, BadNamesLine}
 use Rattle.ranges.specs.Ranges.{empty_ranges}
 use Rattle.quote.specs.Names.{range_names}
-use Rattle.quote.specs.Reading.{refused, is_names, range_lines, reading}
+use Rattle.quote.specs.Reading.{is_names, range_lines, reading}
 
 module _ (s : List ℕ) where
-  pub too_long : max_text_length < length s → refused text_too_long 0 ≡ reading s
+  pub too_long : max_text_length < length s → Err (refusal TextTooLong 0) ≡ reading s
   unfolding reading
   too_long h = rw (lt-ltb max_text_length (length s) h)
 
   module _ (fits : length s ≤ max_text_length) (k : ℕ) (e : k ≡ length (before line_end s)) where
-    pub names_unended : length s ≤ k → refused bad_names_line 0 ≡ reading s
+    pub names_unended : length s ≤ k → Err (refusal BadNamesLine 0) ≡ reading s
     unfolding reading
     names_unended h = rw (le-ltb max_text_length (length s) fits, not_ended_lem is_names s k e h)
 
     module _ (h : k < length s) where
-      pub not_names : same_bytes (take k s) range_names ≡ false → refused bad_names_line 0 ≡ reading s
+      pub not_names : same_bytes (take k s) range_names ≡ false → Err (refusal BadNamesLine 0) ≡ reading s
       unfolding reading is_names
       not_names n = rw (le-ltb max_text_length (length s) fits, first_is_lem is_names s k e h, n)
 

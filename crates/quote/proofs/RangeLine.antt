@@ -7,6 +7,7 @@ use mathlib.Core.Bool.{Bool, true, false, ◌&&◌}
 use mathlib.Core.List.{List}
 use lib.Dec.{eqb}
 use lib.ListN.{length, get_or, take, replicate}
+use Rattle.std.proofs.Common.{Option, Some, None}
 use Rattle.laws.proofs.CaseSplits.{by_cond, clash}
 use Rattle.laws.proofs.Parts.{from, from_drop}
 use Rattle.text.specs.Lines.{line_end, before, after, first_is, field, field_count}
@@ -17,8 +18,7 @@ use Rattle.text.proofs.FirstLine.{is_ended, not_ended_lem, first_is_lem}
 use Rattle.text.proofs.NumberLaws.{no_limit}
 use Rattle.text.proofs.FilledFromLine.{entry_is}
 use Rattle.reader.specs.Value.{is_value}
-use Rattle.ranges.specs.declared.task.RangedTask.{RangedTask}
-use Rattle.quote.specs.declared.reading.RangeLine.TheVariants.{Read, Broken}
+use Rattle.quote.specs.declared.reading.RangeLine.{RangeLine}
 use Rattle.quote.specs.Reading.{five_values, ranged_task_of}
 use Rattle.quote.specs.Parts.{range_line}
 
@@ -46,24 +46,27 @@ five_are l =
     (six (eqb (field_count l) 5) (is_value (field 0 l)) (is_value (field 1 l)) (is_value (field 2 l)) (is_value (field 3 l)) (is_value (field 4 l)))
 
 module _ (s : List ℕ) (k : ℕ) (e : k ≡ length (before line_end s)) where
-  pub unended : length s ≤ k → Broken ≡ range_line s
+  pub unended : length s ≤ k → None ≡ range_line s
   unfolding range_line
   unended h = rw (not_ended_lem five_values s k e h)
 
   module _ (h : k < length s) where
-    pub not_five : are_numbers digits largest 5 (take k s) ≡ false → Broken ≡ range_line s
+    pub not_five : are_numbers digits largest 5 (take k s) ≡ false → None ≡ range_line s
     unfolding range_line
     not_five n = rw (first_is_lem five_values s k e h, ← five_are (take k s), n)
 
     pub line_read :
         (a : List ℕ) → FilledFromLine digits largest (take k s) (replicate 5 0) a true
-        → Read
+        → Some
         (record {
-          period = record { least = get_or a 0 0; most = get_or a 1 0 };
-          budget = record { least = get_or a 2 0; most = get_or a 3 0 };
-          deadline = get_or a 4 0;
+          task =
+              record {
+                period = record { least = get_or a 0 0; most = get_or a 1 0 };
+                budget = record { least = get_or a 2 0; most = get_or a 3 0 };
+                deadline = get_or a 4 0;
+              };
+          length = k + 1;
         })
-        (k + 1)
         ≡ range_line s
     unfolding range_line ranged_task_of
     line_read a n =
@@ -72,21 +75,25 @@ module _ (s : List ℕ) (k : ℕ) (e : k ≡ length (before line_end s)) where
         rw (first_is_lem five_values s k e h, ← five_are (take k s), ← n.is, ← e, ← line.front)
         (rw (← is 0 (omega arith), ← is 1 (omega arith), ← is 2 (omega arith), ← is 3 (omega arith), ← is 4 (omega arith)))
 
--- the text s begins with a value line of n bytes, whose task is k
-pub record LineRead (s : List ℕ) (k : RangedTask) (n : ℕ) : Type 0 where
+-- the text s begins with this value line
+pub record LineRead (s : List ℕ) (line : RangeLine) : Type 0 where
   pub is : first_is five_values s ≡ true
-  pub task_is : ranged_task_of (before line_end s) ≡ k
-  pub some_bytes : 0 < n
-  pub within : n ≤ length s
-  pub rest : after line_end s ≡ from s n
+  pub task_is : ranged_task_of (before line_end s) ≡ line.task
+  pub some_bytes : 0 < line.length
+  pub within : line.length ≤ length s
+  pub rest : after line_end s ≡ from s line.length
 
-pub line_is : (s : List ℕ) (k : RangedTask) (n : ℕ) → range_line s ≡ Read k n → LineRead s k n
+-- no answer is both a line and none
+line_not_none : {A : Type 0} (line : RangeLine) (o : Option RangeLine) → o ≡ None → o ≡ Some line → A
+line_not_none line o none some = clash cc
+
+pub line_is : (s : List ℕ) (line : RangeLine) → range_line s ≡ Some line → LineRead s line
 unfolding range_line
-line_is s k n =
-    by_cond (λ r. r ≡ Read k n → LineRead s k n) (first_is five_values s)
+line_is s line =
+    by_cond (λ (o : Option RangeLine). o ≡ Some line → LineRead s line) (first_is five_values s)
     (λ b e.
     let h = here line_end s (is_ended five_values s b) in
-    let q : length (before line_end s) + 1 ≡ n = cc in
+    let q : length (before line_end s) + 1 ≡ line.length = cc in
     record {
       is = b;
       task_is = cc;
@@ -94,8 +101,11 @@ line_is s k n =
       within = omega (arith, h.within);
       rest = rw (← q) (sym h.rest ∙ sym (from_drop s (length (before line_end s) + 1)));
     })
-    (λ b e. clash cc)
+    (λ b. line_not_none line None refl)
 
-pub line_broken : (s : List ℕ) → range_line s ≡ Broken → first_is five_values s ≡ false
+pub line_broken : (s : List ℕ) → range_line s ≡ None → first_is five_values s ≡ false
 unfolding range_line
-line_broken s = by_cond (λ r. r ≡ Broken → first_is five_values s ≡ false) (first_is five_values s) (λ b e. clash cc) (λ b e. b)
+line_broken s =
+    by_cond (λ (o : Option RangeLine). o ≡ None → first_is five_values s ≡ false) (first_is five_values s)
+    (λ b e. line_not_none _ _ e refl)
+    (λ b e. b)

@@ -1,9 +1,11 @@
 -- Texts and what is printed for them, computed: the theorem stands in proofs/ExamplesHold.antt.
-use Rattle.std.specs.Prelude.{ℕ, zero, suc, Bool, List, [], ◌∷◌, ◌++◌, replicate}
+use Rattle.std.specs.Prelude.{ℕ, zero, suc, Bool, List, [], ◌∷◌, ◌++◌, replicate, Result, Ok, Err}
 use Rattle.laws.specs.Examples.{same_numbers}
 use Rattle.text.specs.Lines.{line_end, space}
 use Rattle.text.specs.Output.{refused_line}
-use Rattle.tasks.specs.Outcome.{is_done}
+use Rattle.tasks.specs.Outcome.{Outcome, is_done}
+use Rattle.tasks.specs.declared.refusals.Refusal.{Refusal}
+use Rattle.ranges.specs.declared.table.RangedTable.{RangedTable}
 use Rattle.judge.specs.SlackExamples.{is_refusal}
 use Rattle.quote.specs.Names.{range_names}
 use Rattle.quote.specs.Reading.{reading}
@@ -83,9 +85,18 @@ second_of_four = plain_lines 1 ++ 49 ∷ 32 ∷ 49 ∷ 32 ∷ 49 ∷ 32 ∷ 49 �
 unfoldable pub second_unended : List ℕ
 second_unended = plain_lines 1 ++ 49 ∷ 32 ∷ 49 ∷ 32 ∷ 49 ∷ 32 ∷ 49 ∷ 32 ∷ 49 ∷ []
 
+-- what it says of a reading that it was carried out, or why not
+unfoldable pub outcome_of : Result RangedTable Refusal → Outcome
+outcome_of (Ok _) = Ok tt
+outcome_of (Err why) = Err why
+
+-- the outcome of reading a text
+unfoldable pub read_outcome : List ℕ → Outcome
+read_outcome text = outcome_of (reading text)
+
 -- reading a text is refused with this number and place
 unfoldable pub reading_refused : List ℕ → (number place : ℕ) → Bool
-reading_refused text number place = is_refusal (reading text).outcome number place
+reading_refused text number place = is_refusal (read_outcome text) number place
 
 -- what is printed, and each refusal of a reading with its place
 unfoldable pub text_examples : List Bool
@@ -101,7 +112,7 @@ text_examples =
     reading_refused [] 2 0 ∷
     reading_refused range_names 2 0 ∷
     -- 32 value lines, and one byte more
-    is_done (reading (ranges_text (plain_lines 32))).outcome ∷
+    is_done (read_outcome (ranges_text (plain_lines 32))) ∷
     reading_refused (ranges_text (plain_lines 32 ++ space ∷ [])) 3 33 ∷
     reading_refused (ranges_text second_of_four) 4 2 ∷
     reading_refused (ranges_text second_unended) 4 2 ∷

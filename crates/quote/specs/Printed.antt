@@ -1,11 +1,11 @@
 -- What is printed for a text: docs/HANDBOOK.md, "Quotes over ranges".
-use Rattle.std.specs.Prelude.{ℕ, min, cond, List, [], ◌∷◌, ◌++◌}
+use Rattle.std.specs.Prelude.{ℕ, min, cond, List, [], ◌∷◌, ◌++◌, Result, Ok, Err}
 use Rattle.text.specs.Lines.{line_end, space}
 use Rattle.text.specs.Number.{decimal_text}
 use Rattle.text.specs.Output.{refused_line}
 use Rattle.tasks.specs.Limits.{max_cores}
-use Rattle.tasks.specs.declared.outcome.Outcome.{Outcome}
-use Rattle.tasks.specs.declared.outcome.Outcome.TheVariants.{Done, Refused}
+use Rattle.tasks.specs.Refusals.{number_of}
+use Rattle.tasks.specs.declared.refusals.Refusal.{Refusal}
 use Rattle.lines.specs.Printed.{lines_up_to}
 use Rattle.ranges.specs.declared.table.RangedTable.{RangedTable}
 use Rattle.ranges.specs.Quote.{QuoteValues, quoted}
@@ -36,10 +36,10 @@ unfoldable pub quote_line : RangedTable → (m : ℕ) → List ℕ
 quote_line r m = decimal_text m ++ space ∷ answer_word (quoted r m)
 
 -- "then for m = 1 up to the smaller of 16 and the number of tasks a line"; "A refused input prints as in `verdict`: `REFUSED n` alone."
-unfoldable pub printed_after : Outcome → RangedTable → List ℕ
-printed_after Done r = header ++ lines_up_to (quote_line r) (min max_cores r.count)
-printed_after (Refused number place) r = refused_line number
+unfoldable pub printed_after : Result RangedTable Refusal → List ℕ
+printed_after (Ok r) = header ++ lines_up_to (quote_line r) (min max_cores r.count)
+printed_after (Err why) = refused_line (number_of why.reason)
 
 -- what is printed for a text
 unfoldable pub printed : List ℕ → List ℕ
-printed s = printed_after (reading s).outcome (reading s).table
+printed s = printed_after (reading s)

@@ -1,23 +1,19 @@
 -- Ranges read from text: docs/HANDBOOK.md, "Quotes over ranges"; "Values, spaces and line ends are as in a table" (document 01, "The table as text").
-use Rattle.std.specs.Prelude.{ℕ, zero, suc, ◌+◌, List, Bool, cond, not, ◌&&◌, eqb, ltb, length}
+use Rattle.std.specs.Prelude.{ℕ, zero, suc, ◌+◌, List, Bool, cond, not, ◌&&◌, eqb, ltb, length, Result, Ok, Err}
 use Rattle.text.specs.Lines.{line_end, before, after, first_is, is_empty, field, field_count}
 use Rattle.text.specs.Words.{same_bytes}
 use Rattle.text.specs.Number.{decimal}
-use Rattle.tasks.specs.declared.outcome.Outcome.{Outcome}
-use Rattle.tasks.specs.declared.outcome.Outcome.TheVariants.{Done, Refused}
 use Rattle.tasks.specs.Limits.{max_tasks, max_text_length}
-use Rattle.tasks.specs.Refusals.{text_too_long, bad_names_line, too_many_tasks, bad_value_line, no_task}
+use Rattle.tasks.specs.Refusals.{refusal}
+use Rattle.tasks.specs.Outcome.{Outcome}
+use Rattle.tasks.specs.declared.refusals.Refusal.{Refusal}
+use Rattle.tasks.specs.declared.refusals.Reason.TheVariants.{TextTooLong, BadNamesLine, TooManyTasks, BadValueLine, NoTask}
 use Rattle.reader.specs.Value.{is_value}
 use Rattle.ranges.specs.declared.task.RangedTask.{RangedTask}
 use Rattle.ranges.specs.declared.table.RangedTable.{RangedTable}
 use Rattle.ranges.specs.Ranges.{empty_ranges, with_ranged_task}
 use Rattle.ranges.specs.Check.{task_checked}
-use Rattle.quote.specs.declared.reading.RangedReading.{RangedReading}
 use Rattle.quote.specs.Names.{range_names}
-
--- a refused reading hands back a ranged table of zero tasks with all its numbers 0
-unfoldable pub refused : (number place : ℕ) → RangedReading
-refused number place = record { table = empty_ranges; outcome = Refused number place }
 
 -- whether a line is the names line: else number 2
 unfoldable pub is_names : List ℕ → Bool
@@ -38,25 +34,25 @@ ranged_task_of l =
     }
 
 -- what reading gives where the ranges r are read and nothing follows: number 6, or the ranges
-unfoldable pub ended : RangedTable → RangedReading
-ended r = cond (eqb r.count 0) (refused no_task 0) (record { table = r; outcome = Done })
+unfoldable pub ended : RangedTable → Result RangedTable Refusal
+ended r = cond (eqb r.count 0) (Err (refusal NoTask 0)) (Ok r)
 
 -- what reading gives by what was found of a task: its refusal, or what the lines after it give
-unfoldable pub or_refused : Outcome → RangedReading → RangedReading
-or_refused Done next = next
-or_refused (Refused number place) next = refused number place
+unfoldable pub or_refused : Outcome → Result RangedTable Refusal → Result RangedTable Refusal
+or_refused (Ok _) next = next
+or_refused (Err why) next = Err why
 
 -- "each value line in turn through 3, 4, 16, 5, then 6": r has the tasks so far, n is how many more there can be, and s is the rest of the text
-unfoldable pub range_lines : (n : ℕ) → RangedTable → List ℕ → RangedReading
-range_lines zero r s = cond (is_empty s) (ended r) (refused too_many_tasks (r.count + 1))
+unfoldable pub range_lines : (n : ℕ) → RangedTable → List ℕ → Result RangedTable Refusal
+range_lines zero r s = cond (is_empty s) (ended r) (Err (refusal TooManyTasks (r.count + 1)))
 range_lines (suc n) r s =
     let task = ranged_task_of (before line_end s) in
     cond (is_empty s) (ended r)
-    (cond (not (first_is five_values s)) (refused bad_value_line (r.count + 1))
+    (cond (not (first_is five_values s)) (Err (refusal BadValueLine (r.count + 1)))
     (or_refused (task_checked task (r.count + 1)) (range_lines n (with_ranged_task r task) (after line_end s))))
 
 -- what reading a text gives: "The refusals are 1, 2, then each value line"
-unfoldable pub reading : List ℕ → RangedReading
+unfoldable pub reading : List ℕ → Result RangedTable Refusal
 reading s =
-    cond (ltb max_text_length (length s)) (refused text_too_long 0)
-    (cond (not (first_is is_names s)) (refused bad_names_line 0) (range_lines max_tasks empty_ranges (after line_end s)))
+    cond (ltb max_text_length (length s)) (Err (refusal TextTooLong 0))
+    (cond (not (first_is is_names s)) (Err (refusal BadNamesLine 0)) (range_lines max_tasks empty_ranges (after line_end s)))

@@ -1,7 +1,7 @@
 pub mod RangesPass
-pub mod Small
 pub mod WithinLaws
 pub mod QuoteLaws
 pub mod QuoteTrue
+pub mod Mapped
 pub mod Computing
 pub mod QuoteExamplesHold

@@ -5,13 +5,13 @@ use mathlib.Core.Path.{◌≡◌, sym, ap, ◌∙◌}
 use mathlib.Core.Bool.{Bool, true, false}
 use Rattle.laws.proofs.CaseSplits.{not_both}
 use Rattle.tasks.specs.declared.table.Table.{Table}
-use Rattle.tasks.specs.declared.outcome.Outcome.TheVariants as Out
+use Rattle.std.proofs.Common.{Ok, Err}
 use Rattle.judge.specs.Judge.{judged}
 use Rattle.judge.proofs.Outcome.{judged_outcome}
 use Rattle.ranges.specs.declared.corner.Corner.{Corner}
 use Rattle.ranges.specs.declared.corner.Corner.TheVariants.{Dearest, Cheapest}
 use Rattle.ranges.specs.declared.table.RangedTable.{RangedTable}
-use Rattle.ranges.specs.declared.Quote.TheVariants.{All, Some, None, Refused}
+use Rattle.ranges.specs.declared.Quote.TheVariants.{All, Some, None}
 use Rattle.ranges.specs.Ranges.{corner_table, Within}
 use Rattle.ranges.specs.Check.{ranges_checked}
 use Rattle.ranges.specs.Quote.{QuoteValues, refused_quote, quote_values_of}
@@ -19,8 +19,8 @@ use Rattle.ranges.specs.Promise.{HasVerdict, AtLeastOne, Says, QuotePromise, One
 use Rattle.ranges.proofs.WithinLaws.{corner_within, no_dearer, within_judged}
 use Rattle.ranges.proofs.QuoteLaws.{stays, given, quoted_outcome, every_admitted, none_admitted}
 
-module _ (r : RangedTable) (m : ℕ) (checks : ranges_checked r m ≡ Out.Done) where
-  within_outcome : (t : Table) → Within r t → (judged t m).outcome ≡ Out.Done
+module _ (r : RangedTable) (m : ℕ) (checks : ranges_checked r m ≡ Ok tt) where
+  pub within_outcome : (t : Table) → Within r t → (judged t m).outcome ≡ Ok tt
   within_outcome t w = judged_outcome t m ∙ within_judged r m checks t w
 
   has_verdict : (t : Table) (admits : Bool) → Within r t → (judged t m).admits ≡ admits → HasVerdict t m admits
@@ -33,26 +33,26 @@ module _ (r : RangedTable) (m : ℕ) (checks : ranges_checked r m ≡ Out.Done) 
 
 pub quote_true : QuotePromise
 unfolding QuotePromise Says quote_values_of refused_quote
-quote_true All r m e =
+quote_true (Ok All) r m e =
     let g = given r m true true e in
     record {
       each = λ t w. has_verdict r m g.checks t true w (every_admitted r m g.checks t w g.at_dearest);
       there_is = at_corner r m g.checks Dearest true g.at_dearest;
     }
-quote_true Some r m e =
+quote_true (Ok Some) r m e =
     let g = given r m false true e in
     record {
       each_judged = within_outcome r m g.checks;
       some = at_corner r m g.checks Cheapest true g.at_cheapest;
       others = at_corner r m g.checks Dearest false g.at_dearest;
     }
-quote_true None r m e =
+quote_true (Ok None) r m e =
     let g = given r m false false e in
     record {
       each = λ t w. has_verdict r m g.checks t false w (none_admitted r m g.checks t w g.at_cheapest);
       there_is = at_corner r m g.checks Cheapest false g.at_cheapest;
     }
-quote_true (Refused number place) r m e = sym (quoted_outcome r m) ∙ sym (ap (λ (v : QuoteValues). v.outcome) e)
+quote_true (Err why) r m e = sym (quoted_outcome r m) ∙ sym (ap (λ (v : QuoteValues). v.outcome) e)
 
 -- two tables within ranges of one value each have the same numbers, so that the one costs no more than the other
 pub one_value_never_some : OneValueNeverSome

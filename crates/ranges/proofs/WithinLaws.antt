@@ -14,7 +14,7 @@ use Rattle.tasks.specs.Check.{checked}
 use Rattle.tasks.specs.Cheaper.{Cheaper}
 use Rattle.tasks.specs.declared.task.Task.{Task}
 use Rattle.tasks.specs.declared.table.Table.{Table}
-use Rattle.tasks.specs.declared.outcome.Outcome.TheVariants.{Done}
+use Rattle.std.proofs.Common.{Ok}
 use Rattle.tasks.proofs.Checked.{passed}
 use Rattle.tasks.proofs.Range.{Range, range_of}
 use Rattle.tasks.proofs.CheaperChecked.{cheaper_checked}
@@ -46,7 +46,7 @@ task_corner_within Cheapest r p =
       same_deadline = omega arith;
     }
 
-module _ (r : RangedTable) (m : ℕ) (checks : ranges_checked r m ≡ Done) where
+module _ (r : RangedTable) (m : ℕ) (checks : ranges_checked r m ≡ Ok tt) where
   pass : Passes r m
   pass = passes r m checks
 
@@ -106,7 +106,7 @@ module _ (r : RangedTable) (m : ℕ) (checks : ranges_checked r m ≡ Done) wher
       rw (corner_entry Cheapest i h)
       (let k = w.each i h in record { budget_no_larger = omega arith; period_no_smaller = omega arith }))
 
-  dearest_judged : checked (corner_table Dearest r) m ≡ Done
+  dearest_judged : checked (corner_table Dearest r) m ≡ Ok tt
   unfolding corner_table
   dearest_judged =
       passed (corner_table Dearest r) m
@@ -118,5 +118,5 @@ module _ (r : RangedTable) (m : ℕ) (checks : ranges_checked r m ≡ Done) wher
         cores_fit = pass.cores_fit;
       })
 
-  pub within_judged : (t : Table) → Within r t → checked t m ≡ Done
+  pub within_judged : (t : Table) → Within r t → checked t m ≡ Ok tt
   within_judged t w = cheaper_checked (corner_table Dearest r) m t m (dearest_first t w) dearest_judged

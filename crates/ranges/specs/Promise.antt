@@ -1,19 +1,19 @@
 -- What a quote says of the tables within the ranges: document 02, change 9, "Each answer has to be true of every choice in the ranges, also the choices never
 -- tried."
-use Rattle.std.specs.Prelude.{ℕ, ◌<◌, ◌≡◌, Bool, true, false, get_or}
+use Rattle.std.specs.Prelude.{ℕ, ◌<◌, ◌≡◌, Bool, true, false, Result, Ok, Err, get_or}
 use Rattle.tasks.specs.declared.table.Table.{Table}
-use Rattle.tasks.specs.declared.outcome.Outcome.TheVariants as Out
+use Rattle.tasks.specs.declared.refusals.Refusal.{Refusal}
 use Rattle.judge.specs.Judge.{judged}
 use Rattle.ranges.specs.declared.table.RangedTable.{RangedTable}
 use Rattle.ranges.specs.declared.Quote.{Quote}
-use Rattle.ranges.specs.declared.Quote.TheVariants.{All, Some, None, Refused}
+use Rattle.ranges.specs.declared.Quote.TheVariants.{All, Some, None}
 use Rattle.ranges.specs.Ranges.{zero_ranged_task, Within}
 use Rattle.ranges.specs.Check.{ranges_checked}
 use Rattle.ranges.specs.Quote.{quote_values_of, quoted}
 
 -- the table t is judged on m cores, not refused, and this is the window test's verdict
 pub record HasVerdict (t : Table) (m : ℕ) (admits : Bool) : Type 0 where
-  pub is_judged : (judged t m).outcome ≡ Out.Done
+  pub is_judged : (judged t m).outcome ≡ Ok tt
   pub verdict : (judged t m).admits ≡ admits
 
 -- a table within the ranges has this verdict
@@ -29,20 +29,20 @@ pub record Every (r : RangedTable) (m : ℕ) (admits : Bool) : Type 0 where
 
 -- "for some and not others", where each is judged
 pub record SomeNotOthers (r : RangedTable) (m : ℕ) : Type 0 where
-  pub each_judged : (t : Table) → Within r t → (judged t m).outcome ≡ Out.Done
+  pub each_judged : (t : Table) → Within r t → (judged t m).outcome ≡ Ok tt
   pub some : AtLeastOne r m true
   pub others : AtLeastOne r m false
 
 -- what each answer says: "admitted by the window test for all values within, for none, or for some and not others", or the refusal
-unfoldable pub Says : Quote → RangedTable → (m : ℕ) → Type 0
-Says All r m = Every r m true
-Says Some r m = SomeNotOthers r m
-Says None r m = Every r m false
-Says (Refused number place) r m = ranges_checked r m ≡ Out.Refused number place
+unfoldable pub Says : Result Quote Refusal → RangedTable → (m : ℕ) → Type 0
+Says (Ok All) r m = Every r m true
+Says (Ok Some) r m = SomeNotOthers r m
+Says (Ok None) r m = Every r m false
+Says (Err why) r m = ranges_checked r m ≡ Err why
 
 -- "Each answer has to be true": whichever ranges and cores, what is answered by the two corners is so
 unfoldable pub QuotePromise : Type 0
-QuotePromise = (answer : Quote) (r : RangedTable) (m : ℕ) → quote_values_of answer ≡ quoted r m → Says answer r m
+QuotePromise = (answer : Result Quote Refusal) (r : RangedTable) (m : ℕ) → quote_values_of answer ≡ quoted r m → Says answer r m
 
 -- each least is its most
 pub record OneValueEach (r : RangedTable) : Type 0 where
@@ -51,4 +51,4 @@ pub record OneValueEach (r : RangedTable) : Type 0 where
 
 -- of such ranges it is never "for some and not others"
 unfoldable pub OneValueNeverSome : Type 0
-OneValueNeverSome = (r : RangedTable) (m : ℕ) → OneValueEach r → quote_values_of Some ≡ quoted r m → ⊥
+OneValueNeverSome = (r : RangedTable) (m : ℕ) → OneValueEach r → quote_values_of (Ok Some) ≡ quoted r m → ⊥

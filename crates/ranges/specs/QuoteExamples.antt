@@ -1,6 +1,6 @@
 -- Worked examples of document 02's change 9, as entries of a list of computed tests: `all_true` of crate laws is the test, and the theorem stands in
 -- proofs/QuoteExamplesHold.antt. Ranged tasks are written least and most period, least and most budget, deadline.
-use Rattle.std.specs.Prelude.{ℕ, Bool, true, not, ◌&&◌, List, [], ◌∷◌, set, replicate}
+use Rattle.std.specs.Prelude.{ℕ, Bool, true, not, ◌&&◌, List, [], ◌∷◌, Ok, set, replicate}
 use Rattle.std.specs.Bool.{beq}
 use Rattle.tasks.specs.Outcome.{is_done}
 use Rattle.tasks.specs.Written.{task}
@@ -19,7 +19,7 @@ same_quote v w = is_done v.outcome && is_done w.outcome && beq v.every w.every &
 
 -- the quote of these ranges on so many cores is this answer
 unfoldable pub quote_on : RangedTable → (cores : ℕ) → Quote → Bool
-quote_on r cores answer = same_quote (quoted r cores) (quote_values_of answer)
+quote_on r cores answer = same_quote (quoted r cores) (quote_values_of (Ok answer))
 
 -- the same of the ranged table of these tasks
 unfoldable pub quote_is : List RangedTask → (cores : ℕ) → Quote → Bool

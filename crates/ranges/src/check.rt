@@ -4,61 +4,37 @@ ghost use Rattle.tasks.specs.Limits.{max_tasks};
 ghost use Rattle.ranges.specs.Check.{tasks_checked, ranges_checked};
 
 use crate::table::RangedTable;
-use crate::task::RangedTask;
 use tasks::check::{cores_in_range, too_many};
 use tasks::limits::MAX_TASKS;
 use tasks::outcome::Outcome;
-use tasks::refusals::{CORES_OUT_OF_RANGE, NO_TASK};
+use tasks::refusals::Reason;
 
-// Done, or the refusal of the first task that is refused.
-fn check_tasks(tasks: [RangedTask; MAX_TASKS], count: usize) -> Outcome
-    requires { count ≤ max_tasks }
-    ensures { result ≡ tasks_checked tasks 0 count }
+// Carried out, or the refusal of the first task that is refused.
+fn check_tasks(table: &RangedTable) -> Outcome
+    requires { table.now.count ≤ max_tasks }
+    ensures { result ≡ tasks_checked table.now.tasks 0 table.now.count }
 {
-    let mut i: usize = 0;
-    while i < count {
-        let task = tasks[i];
-        let outcome = task.check(i as u32 + 1);
-        if let Outcome::Refused {
-            number: _,
-            place: _,
-        } = outcome
-        {
-            return outcome;
-        }
-        i += 1;
+    for i in 0..table.count {
+        table.tasks[i].check(i as u32 + 1)?;
     }
-    Outcome::Done
+    Ok(())
 }
 
-// Done, or the refusal of these ranges or of this number of cores.
+// Carried out, or the refusal of these ranges or of this number of cores. Not one function with the check of a table in tasks: the closure that it would take,
+// from another crate, would need a `requires` there.
+#[tactic(auto, unfolding(crate::specs::Check::ranges_checked, crate::specs::Check::cores_checked, tasks::specs::Outcome::first_refusal))]
 pub fn check_ranges(table: RangedTable, cores: u32) -> Outcome
     ensures { result ≡ ranges_checked table cores }
 {
-    let count = table.count;
-    if MAX_TASKS < count {
+    if MAX_TASKS < table.count {
         return too_many();
     }
-    if count == 0 {
-        return Outcome::Refused {
-            number: NO_TASK,
-            place: 0,
-        };
+    if table.count == 0 {
+        return Err(Reason::NoTask.at(0));
     }
-    let tasks = table.tasks;
-    let outcome = check_tasks(tasks, count);
-    if let Outcome::Refused {
-        number: _,
-        place: _,
-    } = outcome
-    {
-        return outcome;
-    }
+    check_tasks(&table)?;
     if !cores_in_range(cores) {
-        return Outcome::Refused {
-            number: CORES_OUT_OF_RANGE,
-            place: 0,
-        };
+        return Err(Reason::CoresOutOfRange.at(0));
     }
-    Outcome::Done
+    Ok(())
 }

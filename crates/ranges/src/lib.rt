@@ -5,7 +5,7 @@ use crate::check::check_ranges;
 use crate::corner::Corner;
 use crate::table::RangedTable;
 use judge::judge;
-use tasks::outcome::Outcome;
+use tasks::refusals::Refusal;
 
 pub mod check;
 pub mod corner;
@@ -16,31 +16,27 @@ ghost use Rattle.std.specs.Prelude.{◌≡◌};
 ghost use Rattle.ranges.specs.Quote.{quote_values_of, quoted};
 ghost use Rattle.ranges.specs.Promise.{Says};
 
-// For which tables within the ranges the window test admits the table, or the refusal's number and place.
-#[derive(Clone, Copy)]
+// For which tables within the ranges the window test admits the table.
+#[derive(Clone, Copy, PartialEq, Eq)]
 pub enum Quote {
     All,
     Some,
     None,
-    Refused { number: u32, place: u32 },
 }
 
-// The quote of ranges and a number of cores. It is true of every table within the ranges.
-pub fn judge_ranges(table: RangedTable, cores: u32) -> Quote
-    ensures result_value { quote_values_of result ≡ quoted table cores }
+// The quote of ranges and a number of cores, or why they cannot be quoted. It is true of every table within the ranges.
+pub fn judge_ranges(table: RangedTable, cores: u32) -> Result<Quote, Refusal>
+    ensures values { quote_values_of result ≡ quoted table cores }
     ensures says { Says result table cores }
 {
-    let outcome = check_ranges(table, cores);
-    if let Outcome::Refused { number, place } = outcome {
-        return Quote::Refused { number, place };
+    check_ranges(table, cores)?;
+    let dearest = judge(table.at(Corner::Dearest), cores)?;
+    if dearest.admitted {
+        return Ok(Quote::All);
     }
-    let dearest = judge(table.at(Corner::Dearest), cores);
-    if dearest.admits() {
-        return Quote::All;
+    let cheapest = judge(table.at(Corner::Cheapest), cores)?;
+    if cheapest.admitted {
+        return Ok(Quote::Some);
     }
-    let cheapest = judge(table.at(Corner::Cheapest), cores);
-    if cheapest.admits() {
-        return Quote::Some;
-    }
-    Quote::None
+    Ok(Quote::None)
 }

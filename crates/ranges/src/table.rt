@@ -7,7 +7,8 @@ use crate::task::{Range, RangedTask};
 use tasks::limits::MAX_TASKS;
 use tasks::table::Table;
 
-// The first `count` entries are the table's tasks; the entries after them are no part of it.
+// The first `count` entries are the table's tasks; the entries after them are no part of it. Not one generic type with `Table`: a generic struct with an
+// array of a type parameter gets no proof where it is passed on.
 #[derive(Clone, Copy)]
 pub struct RangedTable {
     pub count: usize,
@@ -16,6 +17,7 @@ pub struct RangedTable {
 
 impl RangedTable {
     // The table of zero tasks with all its numbers 0.
+    #[tactic(auto, unfolding(crate::specs::Ranges::empty_ranges, crate::specs::Ranges::zero_ranged_task))]
     pub fn empty() -> Self
         ensures { result ≡ empty_ranges }
     {
@@ -35,14 +37,9 @@ impl RangedTable {
     pub fn at(self, corner: Corner) -> Table
         ensures { result ≡ corner_table corner self }
     {
-        let mut table = Table::empty();
-        table.count = self.count;
-        let mut i: usize = 0;
-        while i < MAX_TASKS {
-            let task = self.tasks[i];
-            table.tasks[i] = task.at(corner);
-            i += 1;
+        Table {
+            count: self.count,
+            tasks: self.tasks.map(|task| task.at(corner)),
         }
-        table
     }
 }

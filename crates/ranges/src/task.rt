@@ -5,7 +5,7 @@ ghost use Rattle.ranges.specs.Check.{in_order, corners_in_range, task_checked};
 
 use crate::corner::Corner;
 use tasks::outcome::Outcome;
-use tasks::refusals::{LEAST_ABOVE_MOST, TASK_OUT_OF_RANGE};
+use tasks::refusals::Reason;
 use tasks::task::Task;
 
 // The numbers from the least to the most, both among them.
@@ -25,6 +25,7 @@ pub struct RangedTask {
 
 impl Range {
     // Whether the least is not above the most: what number 16 refuses otherwise.
+    #[tactic(auto, unfolding(crate::specs::Check::in_order))]
     pub fn in_order(self) -> bool
         ensures { result ≡ in_order self }
     {
@@ -34,6 +35,7 @@ impl Range {
 
 impl RangedTask {
     // The task at a corner of the ranges.
+    #[tactic(auto, unfolding(crate::specs::Ranges::corner_task))]
     pub fn at(self, corner: Corner) -> Task
         ensures { result ≡ corner_task corner self }
     {
@@ -52,41 +54,24 @@ impl RangedTask {
     }
 
     // Whether the task at both corners is in range: what number 5 refuses otherwise.
+    #[tactic(auto, unfolding(crate::specs::Check::corners_in_range))]
     fn corners_in_range(self) -> bool
         ensures { result ≡ corners_in_range self }
     {
-        let dearest = self.at(Corner::Dearest);
-        if !dearest.in_range() {
-            return false;
-        }
-        let cheapest = self.at(Corner::Cheapest);
-        cheapest.in_range()
+        self.at(Corner::Dearest).in_range() && self.at(Corner::Cheapest).in_range()
     }
 
-    // Done, or the refusal of this task with its place: number 16, and just after it number 5.
+    // Carried out, or the refusal of this task with its place: a least above its most, and just after it a corner out of range.
+    #[tactic(auto, unfolding(crate::specs::Check::task_checked))]
     pub fn check(self, place: u32) -> Outcome
         ensures { result ≡ task_checked self place }
     {
-        let period = self.period;
-        let budget = self.budget;
-        if !period.in_order() {
-            return Outcome::Refused {
-                number: LEAST_ABOVE_MOST,
-                place,
-            };
-        }
-        if !budget.in_order() {
-            return Outcome::Refused {
-                number: LEAST_ABOVE_MOST,
-                place,
-            };
+        if !self.period.in_order() || !self.budget.in_order() {
+            return Err(Reason::LeastAboveMost.at(place));
         }
         if !self.corners_in_range() {
-            return Outcome::Refused {
-                number: TASK_OUT_OF_RANGE,
-                place,
-            };
+            return Err(Reason::TaskOutOfRange.at(place));
         }
-        Outcome::Done
+        Ok(())
     }
 }

@@ -3,26 +3,25 @@
 use Prim.Native.Nat.{ℕ}
 use mathlib.Core.Path.{◌≡◌, sym, ap}
 use mathlib.Core.List.{List}
-use Rattle.tasks.specs.declared.outcome.Outcome.TheVariants as Out
+use Rattle.std.proofs.Common.{Result, Ok, Err}
+use Rattle.tasks.specs.declared.refusals.Refusal.{Refusal}
 use Rattle.tasks.specs.Numbers.{periods_of, budgets_of, deadlines_of, table_from}
 use Rattle.tasks.proofs.Numbers.{from_lists}
-use Rattle.reader.specs.declared.numbers.Counted.{Counted}
-use Rattle.reader.specs.declared.numbers.Counted.TheVariants.{Read, Refused}
 use Rattle.reader.specs.Counted.{CountedValues, counted_values_of, counted_in}
 use Rattle.reader.specs.Reading.{reading}
 use Rattle.reader.proofs.Long.{reading_long}
 
 -- a table that was read, of n tasks
 pub record CountedRead (s : List ℕ) (n : ℕ) : Type 0 where
-  pub outcome : (reading s).outcome ≡ Out.Done
+  pub outcome : (reading s).outcome ≡ Ok tt
   pub again : let tasks = (reading s).table.tasks in table_from (periods_of tasks) (budgets_of tasks) (deadlines_of tasks) n ≡ (reading s).table
 
-module _ (s : List ℕ) (r : Counted) (is : counted_values_of r ≡ counted_in (reading s)) where
-  pub counted_refused : (number place : ℕ) → r ≡ Refused number place → (reading s).outcome ≡ Out.Refused number place
+module _ (s : List ℕ) (r : Result ℕ Refusal) (is : counted_values_of r ≡ counted_in (reading s)) where
+  pub counted_refused : (why : Refusal) → r ≡ Err why → (reading s).outcome ≡ Err why
   unfolding counted_values_of counted_in
-  counted_refused number place e = sym (ap (λ (v : CountedValues). v.outcome) (rw e at is))
+  counted_refused why e = sym (ap (λ (v : CountedValues). v.outcome) (rw e at is))
 
-  pub counted_read : (n : ℕ) → r ≡ Read n → CountedRead s n
+  pub counted_read : (n : ℕ) → r ≡ Ok n → CountedRead s n
   unfolding counted_values_of counted_in table_from
   counted_read n e =
       let values = rw e at is in

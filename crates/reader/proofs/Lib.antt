@@ -4,6 +4,5 @@ pub mod ValueScan
 pub mod ValueLine
 pub mod ValueLines
 pub mod NumbersRead
-pub mod Small
 pub mod Long
 pub mod CountedLaws

@@ -16,7 +16,8 @@ use Rattle.text.proofs.Split.{here, gone, hasnt_of, cut}
 use Rattle.text.proofs.FieldLaws.{count_one}
 use Rattle.text.proofs.CutFields.{FirstField, cut_field, more_fields, last_field}
 use Rattle.reader.specs.declared.names.Columns.{Columns}
-use Rattle.reader.specs.declared.names.NamesLine.TheVariants.{Read, Broken}
+use Rattle.std.proofs.Common.{Some, None}
+use Rattle.reader.specs.declared.names.NamesLine.{NamesLine}
 use Rattle.reader.specs.Names.{columns_in, columns_of, each_named, three_names, begins_with_names}
 use Rattle.reader.specs.Parts.{names_line}
 use Rattle.reader.proofs.Naming.{none_in}
@@ -76,13 +77,13 @@ module _ (s : List ℕ) where
       let f = three_fields (eqb-true (field_count line) 3 (and_left count each j)) in
       record { fields = f; ended = sym (is_ended f) ∙ i; named = rw (← columns_are f) (and_right count each j) }
 
-  broken : (Found → ⊥) → Broken ≡ names_line s
+  broken : (Found → ⊥) → None ≡ names_line s
   unfolding names_line
   broken n = by_test (begins_with_names s) (λ t. absurd (n (found t))) (λ t. rw t)
 
   -- the first field is f: a space follows it, or the text ends
   module _ (f : List ℕ) (e : f ≡ before space s) where
-    pub no_first : length s ≤ length f → Broken ≡ names_line s
+    pub no_first : length s ≤ length f → None ≡ names_line s
     no_first l = broken (λ n. not_both (has space s) n.fields.first.there (hasnt_of space s (rw e at l)))
 
     -- the second field is g
@@ -90,7 +91,7 @@ module _ (s : List ℕ) where
       rest_is : past s (length f) ≡ rest
       rest_is = (cut space s (length f) (ap length e) l).rest
 
-      pub no_second : length (past s (length f)) ≤ length g → Broken ≡ names_line s
+      pub no_second : length (past s (length f)) ≤ length g → None ≡ names_line s
       no_second k =
           broken (λ n. not_both (has space rest) n.fields.second.there (rw (← rest_is) (hasnt_of space (past s (length f)) (rw e₁ at k))))
 
@@ -102,23 +103,23 @@ module _ (s : List ℕ) where
         last_is_lem : left ≡ last
         last_is_lem = (cut space (past s (length f)) (length g) (ap length e₁) k).rest ∙ ap (after space) rest_is
 
-        pub no_end : length left ≤ length h → Broken ≡ names_line s
+        pub no_end : length left ≤ length h → None ≡ names_line s
         no_end j = broken (λ n. not_both (has line_end last) n.ended (rw (← last_is_lem) (hasnt_of line_end left (rw e₂ at j))))
 
-        module _ (j : length h < length left) (c : Columns) (q : c ≡ columns_in f g h) where
+        module _ (j : length h < length left) where
           second_is : g ≡ before space rest
           second_is = e₁ ∙ ap (before space) rest_is
 
           third_is_lem : h ≡ before line_end last
           third_is_lem = e₂ ∙ ap (before line_end) last_is_lem
 
-          columns_cut : c ≡ cut_columns
-          columns_cut = q ∙ rw (e, second_is, third_is_lem)
+          columns_cut : columns_in f g h ≡ cut_columns
+          columns_cut = rw (e, second_is, third_is_lem)
 
-          pub no_names : each_named c ≡ false → Broken ≡ names_line s
+          pub no_names : each_named (columns_in f g h) ≡ false → None ≡ names_line s
           no_names x = broken (λ n. not_both (each_named cut_columns) n.named (rw (← columns_cut) x))
 
-          module _ (x : each_named c ≡ true) where
+          module _ (c : Columns) (q : c ≡ columns_in f g h) (x : each_named c ≡ true) where
             three_cut : ThreeFields s
             unfolding has
             three_cut =
@@ -138,7 +139,7 @@ module _ (s : List ℕ) where
 
             is : begins_with_names s ≡ true
             unfolding begins_with_names first_is three_names
-            is = rw (ended_cut, eq-eqb (field_count line) 3 (three three_cut), columns_are three_cut, ← columns_cut) x
+            is = rw (ended_cut, eq-eqb (field_count line) 3 (three three_cut), columns_are three_cut, ← columns_cut, ← q) x
 
             size : length line + 1 ≡ length f + 1 + length g + 1 + length h + 1
             size =
@@ -151,31 +152,31 @@ module _ (s : List ℕ) where
                   ap length third_is_lem,
                 )
 
-            pub all_three : Read c (length f + 1 + length g + 1 + length h + 1) ≡ names_line s
+            pub all_three : Some (record { columns = c; length = length f + 1 + length g + 1 + length h + 1 }) ≡ names_line s
             unfolding names_line
-            all_three = rw (is, columns_are three_cut, ← columns_cut, size)
+            all_three = rw (is, columns_are three_cut, ← columns_cut, ← q, size)
 
 -- a names line that was read, and none
-pub record NamesRead (s : List ℕ) (k : Columns) (n : ℕ) : Type 0 where
+pub record NamesRead (s : List ℕ) (line : NamesLine) : Type 0 where
   pub is : begins_with_names s ≡ true
-  pub columns : k ≡ columns_of (before line_end s)
-  pub within : n ≤ length s
-  pub rest : from s n ≡ after line_end s
+  pub columns : line.columns ≡ columns_of (before line_end s)
+  pub within : line.length ≤ length s
+  pub rest : from s line.length ≡ after line_end s
 
 ended : (s : List ℕ) → begins_with_names s ≡ true → has line_end s ≡ true
 unfolding begins_with_names first_is
 ended s t = and_left (has line_end s) (three_names (before line_end s)) t
 
-pub names_read : (s : List ℕ) (k : Columns) (n : ℕ) → names_line s ≡ Read k n → NamesRead s k n
+pub names_read : (s : List ℕ) (line : NamesLine) → names_line s ≡ Some line → NamesRead s line
 unfolding names_line
-names_read s k n =
-    by_cond (λ r. r ≡ Read k n → NamesRead s k n) (begins_with_names s)
+names_read s line =
+    by_cond (λ r. r ≡ Some line → NamesRead s line) (begins_with_names s)
     (λ t e.
-    let c : n ≡ length (before line_end s) + 1 = cc in
+    let c : line.length ≡ length (before line_end s) + 1 = cc in
     let l = here line_end s (ended s t) in
-    record { is = t; columns = cc; within = omega (arith, l.within); rest = from_drop s n ∙ rw c l.rest })
+    record { is = t; columns = cc; within = omega (arith, l.within); rest = from_drop s line.length ∙ rw c l.rest })
     (λ t e. clash cc)
 
-pub names_broken : (s : List ℕ) → names_line s ≡ Broken → begins_with_names s ≡ false
+pub names_broken : (s : List ℕ) → names_line s ≡ None → begins_with_names s ≡ false
 unfolding names_line
-names_broken s = by_cond (λ r. r ≡ Broken → begins_with_names s ≡ false) (begins_with_names s) (λ t e. clash cc) (λ t e. t)
+names_broken s = by_cond (λ r. r ≡ None → begins_with_names s ≡ false) (begins_with_names s) (λ t e. clash cc) (λ t e. t)

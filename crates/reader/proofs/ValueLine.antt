@@ -1,88 +1,27 @@
--- What the value line of a text s is where its reader stops: its `Answer` by `no_first`, `no_second` and `no_third` at a value that is none, by what the reader of
--- a value says (`ended`, `not_ended_lem`), and by `all_three`, with `fits`; what it says of a text: `line_read`, with `LineRead`, and `line_broken`; and
--- `columns_below`.
-use Prim.Native.Nat.{ℕ, zero, suc, ◌+◌, ◌≤◌, ◌<◌}
-use native.Mathlib.Omega.{arith}
-use mathlib.Core.Path.{◌≡◌, refl, sym, ◌∙◌}
-use mathlib.Core.Bool.{Bool, true, false, cond, ◌&&◌, and-false}
-use mathlib.Core.List.{List, [], ◌∷◌}
+-- What the value line of a text s is where its reader stops: `no_first`, `no_second` and `no_third` at a value that is none, and `all_three`, with `within` and
+-- `fits`, by what is `Read` of a value (`value_read`). What a value line says of a text: `line_read`, with `LineRead`, and `line_broken`; and `columns_below`.
+use Rattle.std.proofs.Common.{ℕ, zero, suc, ◌+◌, ◌-◌, ◌≤◌, ◌<◌, ◌≡◌, refl, sym, ap, ◌∙◌, Bool, true, false, ◌&&◌, List, [], ◌∷◌, length, get_or, Some, None, arith}
+use mathlib.Core.Bool.{and-false}
 use borrow.Author.Tests.{ltb-true}
 use lib.Dec.{eqb, ltb}
-use lib.ListN.{length, get_or, set}
-use Rattle.laws.proofs.CaseSplits.{by_test, not_both}
+use Rattle.laws.proofs.CaseSplits.{by_test, by_cond, not_both, clash}
 use Rattle.laws.proofs.Booleans.{and_left, and_right}
-use Rattle.laws.proofs.Parts.{from, past, from_drop, from_length}
-use Rattle.text.specs.Lines.{line_end, space, has, before, after, field_count, field, first_is}
-use Rattle.text.specs.Number.{is_digit, decimal, number_up_to}
-use Rattle.text.specs.Fields.{each_number, are_numbers}
-use Rattle.text.specs.declared.number.Before.TheVariants.{Read}
-use Rattle.text.proofs.Split.{here, has_past, cut}
-use Rattle.text.proofs.NumberLaws.{no_other}
-use Rattle.text.proofs.NumbersOn.{numbers_on, are_numbers_lem, on_line}
+use Rattle.laws.proofs.Parts.{past, from_drop, from_length}
+use Rattle.text.specs.Lines.{line_end, space, has, before, after, field_count, field}
+use Rattle.text.specs.Lines.{first_is}
+use Rattle.text.specs.Number.{decimal, number_up_to}
+use Rattle.text.specs.Fields.{each_number, are_numbers, three_of, three_numbers}
+use Rattle.text.specs.declared.fields.ThreeNumbers.{ThreeNumbers}
+use Rattle.text.proofs.Split.{here, gone, has_of, hasnt_of}
+use Rattle.reader.proofs.ValueScan.{largest, value_number}
 use Rattle.text.proofs.ThreeNumbers as Three
-use Rattle.tasks.specs.declared.task.Task.{Task}
+use Rattle.text.proofs.ThreeNumbers.{three_are, three_are_not}
+use Rattle.text.specs.declared.number.LeadingNumber.{LeadingNumber}
 use Rattle.reader.specs.declared.names.Columns.{Columns}
 use Rattle.reader.specs.Value.{is_value}
 use Rattle.reader.specs.Names.{each_named}
 use Rattle.reader.specs.Reading.{three_values, begins_with_values, task_of}
-use Rattle.reader.proofs.ValueScan.{largest, value_number, no_digits}
-
--- whether a value stands before the first byte b of a text, and is ended by it
-abbrev value_up_to : ℕ → List ℕ → Bool
-value_up_to b s = has b s && is_value (before b s)
-
--- a value of r bytes, ended by b
-pub record Ended (b : ℕ) (s : List ℕ) (r : ℕ) : Type 0 where
-  pub is : value_up_to b s ≡ true
-  pub number : number_up_to 7 largest b s ≡ Read (decimal (before b s)) r
-  pub within : r + 1 ≤ length s
-  pub rest : past s r ≡ after b s
-
--- the answer r of the reader of a value
-module _ (b : ℕ) (s : List ℕ) (r : ℕ) (e : r ≡ cond (value_up_to b s) (length (before b s)) 0) where
-  pub not_ended_lem : r ≡ 0 → value_up_to b s ≡ false
-  not_ended_lem z =
-      by_test (value_up_to b s)
-      (λ t.
-      let empty : length (before b s) ≡ 0 = sym (e ∙ rw t) ∙ z in
-      not_both (is_value (before b s)) (and_right (has b s) (is_value (before b s)) t) (no_digits (before b s) empty))
-      (λ t. t)
-
-  pub ended : (r ≡ 0 → ⊥) → Ended b s r
-  unfolding number_up_to
-  ended n =
-      by_test (value_up_to b s)
-      (λ t.
-      let count : r ≡ length (before b s) = e ∙ rw t in
-      let within : r + 1 ≤ length s = omega (arith, (here b s (and_left (has b s) (is_value (before b s)) t)).within) in
-      record {
-        is = t;
-        number = rw (value_number (before b s), and_right (has b s) (is_value (before b s)) t, count);
-        within = within;
-        rest = (cut b s r count (omega arith)).rest;
-      })
-      (λ t. absurd (n (e ∙ rw t)))
-
--- no value has a byte 10: one after the space that ends a value is that of the text
-same_end : (s : List ℕ) → value_up_to space s ≡ true → has line_end s ≡ has line_end (after space s)
-unfolding is_digit
-same_end s t =
-    let v = and_right (has space s) (is_value (before space s)) t in
-    let none : has line_end (before space s) ≡ false =
-    by_test (has line_end (before space s))
-    (λ h. not_both (is_value (before space s)) v (sym (value_number (before space s)) ∙ no_other 7 largest line_end refl (before space s) h))
-    (λ h. h)
-    in
-    has_past space line_end s refl (and_left (has space s) (is_value (before space s)) t) none
-
--- the first of some values on a line, which is ended
-first_value :
-    (n : ℕ) (s : List ℕ)
-    → (has line_end s && numbers_on 7 largest (suc n) (before line_end s))
-    ≡ (value_up_to space s && (has line_end (after space s) && numbers_on 7 largest n (before line_end (after space s))))
-first_value n s =
-    rw (on_line 7 largest n s, value_number (before space s))
-    (by_test (value_up_to space s) (λ t. rw (t, same_end s t)) (λ t. rw (t, and-false (has line_end s))))
+use Rattle.reader.specs.Parts.{value_up_to, value_line, task_in}
 
 -- three tests after another, one by one and from the last
 three_and : (t a b c : Bool) → (t && a && b && c) ≡ (t && (a && (b && (c && true))))
@@ -93,73 +32,113 @@ three_and true true true false = refl
 three_and true true true true = refl
 
 -- three values are three numbers
-three_values_lem : (l : List ℕ) → three_values l ≡ are_numbers 7 largest 3 l
+values_are_numbers : (l : List ℕ) → three_values l ≡ are_numbers 7 largest 3 l
 unfolding three_values are_numbers each_number field
-three_values_lem l =
+values_are_numbers l =
     rw (value_number (field 0 l), value_number (field 1 l), value_number (field 2 l))
     (three_and (eqb (field_count l) 3) (is_value (field 0 l)) (is_value (field 1 l)) (is_value (field 2 l)))
 
--- the tests as the code makes them
-tests :
-    (s : List ℕ)
-    → begins_with_values s
-    ≡ (value_up_to space s && (value_up_to space (after space s) && value_up_to line_end (after space (after space s))))
-unfolding begins_with_values first_is numbers_on
-tests s =
-    rw (three_values_lem (before line_end s), are_numbers_lem 7 largest 2 (before line_end s), first_value 1 s, first_value 0 (after space s), value_number)
+-- a value that was read is a number, and a byte follows it
+pub record Read (b : ℕ) (s : List ℕ) (v : LeadingNumber) : Type 0 where
+  pub number : number_up_to 7 largest b s ≡ Some v
+  pub within : v.length < length s
 
-three_sets : (vs : List ℕ) (x y z : ℕ) → length vs ≡ 3 → set (set (set vs 0 x) 1 y) 2 z ≡ x ∷ y ∷ z ∷ []
-three_sets [] x y z l = absurd (omega arith)
-three_sets (a ∷ []) x y z l = absurd (omega arith)
-three_sets (a ∷ b ∷ []) x y z l = absurd (omega arith)
-three_sets (a ∷ b ∷ c ∷ []) x y z l = refl
-three_sets (a ∷ b ∷ c ∷ d ∷ vs) x y z l = absurd (omega arith)
+pub value_read : (b : ℕ) (s : List ℕ) (v : LeadingNumber) → value_up_to b s ≡ Some v → Read b s v
+unfolding value_up_to number_up_to
+value_read b s v =
+    let field = before b s in
+    by_cond (λ r. r ≡ Some v → Read b s v) (has b s && is_value field)
+    (λ t e.
+    let is : v ≡ record { number = decimal field; length = length field } = cc in
+    record {
+      number = rw (value_number field, and_right (has b s) (is_value field) t, is);
+      within = rw is (here b s (and_left (has b s) (is_value field) t)).within;
+    })
+    (λ t e. clash cc)
+
+-- where there is none, there is no number, or no byte follows it
+pub no_value_read :
+    {A : Type 0} (b : ℕ) (s : List ℕ)
+    → (number_up_to 7 largest b s ≡ None → A)
+    → ((v : LeadingNumber) → number_up_to 7 largest b s ≡ Some v → length s ≤ v.length → A)
+    → value_up_to b s ≡ None → A
+unfolding value_up_to number_up_to
+no_value_read {A} b s broken open_end =
+    let field = before b s in
+    by_cond (λ r. r ≡ None → A) (has b s && is_value field)
+    (λ t e. clash cc)
+    (λ t e.
+    by_test (is_value field)
+    (λ v.
+    let rest : has b s ≡ false = by_test (has b s) (λ h. not_both (has b s && is_value field) (rw (h, v)) t) (λ h. h) in
+    open_end (record { number = decimal field; length = length field }) (rw (value_number field, v)) (omega (arith, ap length (gone b s rest))))
+    (λ v. broken (rw (value_number field, v))))
 
 module _ (s : List ℕ) where
-  -- what the reader of a line answers, and leaves in its array
-  pub record Answer (vs : List ℕ) (r : ℕ) : Type 0 where
-    pub count : r ≡ cond (begins_with_values s) (length (before line_end s) + 1) 0
-    pub values :
-        begins_with_values s ≡ true
-        → vs ≡ decimal (field 0 (before line_end s)) ∷ decimal (field 1 (before line_end s)) ∷ decimal (field 2 (before line_end s)) ∷ []
+  no_numbers : three_numbers 7 largest s ≡ None → None ≡ value_line s
+  unfolding value_line begins_with_values first_is
+  no_numbers e =
+      let none = three_are_not 7 largest s e in
+      rw (values_are_numbers (before line_end s), none, and-false (has line_end s))
 
-  nothing : (vs : List ℕ) → begins_with_values s ≡ false → Answer vs 0
-  nothing vs f = record { count = rw f; values = λ t. not_both (begins_with_values s) t f }
+  -- three numbers, whose line is not ended where no byte is left
+  module _ (t : ThreeNumbers) (e : three_numbers 7 largest s ≡ Some t) where
+    not_ended : length s ≤ t.length → None ≡ value_line s
+    unfolding value_line begins_with_values first_is three_of
+    not_ended h =
+        let are = three_are 7 largest s t e in
+        rw (hasnt_of line_end s (omega (arith, ap (λ (t : ThreeNumbers). t.length) are.is)))
 
-  pub no_first : (vs : List ℕ) → value_up_to space s ≡ false → Answer vs 0
-  no_first vs f = nothing vs (tests s ∙ rw f)
+    is_line : t.length < length s → Some t ≡ value_line s
+    unfolding value_line begins_with_values first_is three_of
+    is_line h =
+        let are = three_are 7 largest s t e in
+        let is : t ≡ three_of (before line_end s) = are.is in
+        let there : has line_end s ≡ true = has_of line_end s (omega (arith, ap (λ (t : ThreeNumbers). t.length) are.is)) in
+        rw (there, values_are_numbers (before line_end s), are.are, ← is)
 
-  -- the first value has a bytes
-  module _ (a : ℕ) (v : Ended space s a) where
-    pub no_second : (vs : List ℕ) → value_up_to space (past s a) ≡ false → Answer vs 0
-    no_second vs f = nothing vs (tests s ∙ rw (← v.rest, v.is, f))
+  pub no_first : value_up_to space s ≡ None → None ≡ value_line s
+  no_first =
+      no_value_read space s
+      (λ e. no_numbers (sym (Three.no_first 7 largest s e)))
+      (λ v e h. no_numbers (sym (Three.one_field 7 largest s v e h)))
 
-    -- the second has b bytes
-    module _ (b : ℕ) (w : Ended space (past s a) b) where
-      pub no_third : (vs : List ℕ) → value_up_to line_end (past (past s a) b) ≡ false → Answer vs 0
-      no_third vs f = nothing vs (tests s ∙ rw (← v.rest, v.is, ← w.rest, w.is, f))
+  -- the first value, and what follows it
+  module _ (a : LeadingNumber) (v : Read space s a) where
+    pub no_second : value_up_to space (past s a.length) ≡ None → None ≡ value_line s
+    no_second =
+        no_value_read space (past s a.length)
+        (λ e. no_numbers (sym (Three.no_second 7 largest s a v.number v.within e)))
+        (λ w e h. no_numbers (sym (Three.two_fields 7 largest s a v.number v.within w e h)))
 
-      -- the third has d bytes
-      module _ (d : ℕ) (u : Ended line_end (past (past s a) b) d) where
-        pub fits : a + 1 + b + 1 + d + 1 ≤ length s
-        fits = omega (arith, u.within, w.within, v.within, from_length s (a + 1), from_length (past s a) (b + 1))
+    -- the second
+    module _ (b : LeadingNumber) (w : Read space (past s a.length) b) where
+      pub within : a.length + 1 + b.length + 1 ≤ length s
+      within = omega (arith, v.within, w.within, from_length s (a.length + 1))
 
-        -- each was put into its place, of three that were in the array at first
-        pub all_three :
-            (vs v₁ v₂ v₃ : List ℕ)
-            → length vs ≡ 3
-            → v₁ ≡ cond (value_up_to space s) (set vs 0 (decimal (before space s))) vs
-            → v₂ ≡ cond (value_up_to space (past s a)) (set v₁ 1 (decimal (before space (past s a)))) v₁
-            → v₃ ≡ cond (value_up_to line_end (past (past s a) b)) (set v₂ 2 (decimal (before line_end (past (past s a) b)))) v₂
-            → Answer v₃ (a + 1 + b + 1 + d + 1)
-        all_three vs v₁ v₂ v₃ l e₁ e₂ e₃ =
-            let t = Three.all_three 7 largest s _ a v.number (omega (arith, v.within)) _ b w.number (omega (arith, w.within)) _ d u.number in
-            let p = Three.three_are 7 largest s _ _ _ _ (sym t) in
-            let is : begins_with_values s ≡ true = tests s ∙ rw (← v.rest, v.is, ← w.rest, w.is, u.is) in
-            record {
-              count = rw (is, p.count);
-              values = λ _. rw (e₃, u.is, e₂, w.is, e₁, v.is, p.first, p.second, p.third) (three_sets vs _ _ _ l);
-            }
+      -- the line of these and a third number d
+      abbrev line : LeadingNumber → ThreeNumbers
+      line d = record { first = a.number; second = b.number; third = d.number; length = a.length + 1 + b.length + 1 + d.length }
+
+      whole : (d : LeadingNumber) → number_up_to 7 largest line_end (past (past s a.length) b.length) ≡ Some d → three_numbers 7 largest s ≡ Some (line d)
+      whole d e = sym (Three.all_three 7 largest s a v.number v.within b w.number w.within d e)
+
+      left : length (past (past s a.length) b.length) ≡ length s - (a.length + 1 + b.length + 1)
+      left = omega (arith, from_length s (a.length + 1), from_length (past s a.length) (b.length + 1))
+
+      pub no_third : value_up_to line_end (past (past s a.length) b.length) ≡ None → None ≡ value_line s
+      no_third =
+          no_value_read line_end (past (past s a.length) b.length)
+          (λ e. no_numbers (sym (Three.no_third 7 largest s a v.number v.within b w.number w.within e)))
+          (λ d e h. not_ended (line d) (whole d e) (omega (arith, left)))
+
+      -- the third
+      module _ (d : LeadingNumber) (u : Read line_end (past (past s a.length) b.length) d) where
+        pub fits : a.length + 1 + b.length + 1 + d.length < length s
+        fits = omega (arith, left, within, u.within)
+
+        pub all_three : Some (line d) ≡ value_line s
+        all_three = is_line (line d) (whole d u.number) fits
 
 -- the columns of three names are three
 pub record ColumnsBelow (c : Columns) : Type 0 where
@@ -189,37 +168,31 @@ picked l (suc zero) h = refl
 picked l (suc (suc zero)) h = refl
 picked l (suc (suc (suc i))) h = absurd (omega arith)
 
--- a value line that was read, of n bytes, and none
-pub record LineRead (c : Columns) (s : List ℕ) (k : Task) (n : ℕ) : Type 0 where
+-- a value line that was read, and its task
+pub record LineRead (c : Columns) (s : List ℕ) (line : ThreeNumbers) : Type 0 where
   pub is : begins_with_values s ≡ true
-  pub task_is : task_of c (before line_end s) ≡ k
-  pub rest : from s n ≡ after line_end s
-  pub some_bytes : 0 < n
-  pub within : n ≤ length s
+  pub task_is : task_of c (before line_end s) ≡ task_in c line
+  pub rest : past s line.length ≡ after line_end s
+  pub within : line.length < length s
 
-module _ (s vs : List ℕ) (n : ℕ) (a : Answer s vs n) where
-  pub line_broken : n ≡ 0 → begins_with_values s ≡ false
-  line_broken z =
-      by_test (begins_with_values s)
-      (λ t. let e : n ≡ length (before line_end s) + 1 = a.count ∙ rw t in absurd (omega arith))
-      (λ t. t)
+module _ (s : List ℕ) where
+  pub line_broken : value_line s ≡ None → begins_with_values s ≡ false
+  unfolding value_line
+  line_broken = by_cond (λ r. r ≡ None → begins_with_values s ≡ false) (begins_with_values s) (λ t e. clash cc) (λ t e. t)
 
-  pub line_read :
-      (c : Columns) → each_named c ≡ true → (n ≡ 0 → ⊥) → (k : Task)
-      → k ≡ record { period = get_or vs c.period 0; budget = get_or vs c.budget 0; deadline = get_or vs c.deadline 0 } → LineRead c s k n
-  unfolding begins_with_values first_is task_of
-  line_read c named some k e =
-      by_test (begins_with_values s)
-      (λ t.
-      let q : n ≡ length (before line_end s) + 1 = a.count ∙ rw t in
+  pub line_read : (c : Columns) → each_named c ≡ true → (line : ThreeNumbers) → value_line s ≡ Some line → LineRead c s line
+  unfolding value_line begins_with_values first_is task_of task_in three_of
+  line_read c named line =
+      by_cond (λ r. r ≡ Some line → LineRead c s line) (begins_with_values s)
+      (λ t e.
       let l = here line_end s (and_left (has line_end s) (three_values (before line_end s)) t) in
       let b = columns_below c named in
       let at = picked (before line_end s) in
+      let is : line ≡ three_of (before line_end s) = cc in
       record {
         is = t;
-        task_is = rw (e, a.values t, at c.period b.period, at c.budget b.budget, at c.deadline b.deadline);
-        rest = from_drop s n ∙ rw q l.rest;
-        some_bytes = omega arith;
-        within = omega (arith, l.within);
+        task_is = rw (is, at c.period b.period, at c.budget b.budget, at c.deadline b.deadline);
+        rest = from_drop s (line.length + 1) ∙ rw is l.rest;
+        within = rw is l.within;
       })
-      (λ t. absurd (some (a.count ∙ rw t)))
+      (λ t e. clash cc)

@@ -1,10 +1,8 @@
 -- What is answered where a table's numbers are read into three arrays: document 01, "The table as text" and "Why a call is not carried out".
-use Rattle.std.specs.Prelude.{ℕ}
-use Rattle.tasks.specs.declared.outcome.Outcome.{Outcome}
-use Rattle.tasks.specs.declared.outcome.Outcome.TheVariants as Out
+use Rattle.std.specs.Prelude.{ℕ, Result, Ok, Err}
+use Rattle.tasks.specs.declared.refusals.Refusal.{Refusal}
+use Rattle.tasks.specs.Outcome.{Outcome}
 use Rattle.reader.specs.declared.Reading.{Reading}
-use Rattle.reader.specs.declared.numbers.Counted.{Counted}
-use Rattle.reader.specs.declared.numbers.Counted.TheVariants.{Read, Refused}
 
 -- whether reading was carried out, and how many tasks the table has
 pub record CountedValues : Type 0 where
@@ -13,9 +11,9 @@ pub record CountedValues : Type 0 where
 
 -- "If an answer is an enum, a definition gives this paper's number and values for each of the enum's cases."; "A refused reading hands back a table
 -- of zero tasks"
-unfoldable pub counted_values_of : Counted → CountedValues
-counted_values_of (Read count) = record { outcome = Out.Done; count = count }
-counted_values_of (Refused number place) = record { outcome = Out.Refused number place; count = 0 }
+unfoldable pub counted_values_of : Result ℕ Refusal → CountedValues
+counted_values_of (Ok count) = record { outcome = Ok tt; count = count }
+counted_values_of (Err why) = record { outcome = Err why; count = 0 }
 
 -- those of a reading
 unfoldable pub counted_in : Reading → CountedValues

@@ -1,10 +1,11 @@
 -- A table read from text: document 01, "The table as text" and "Why a call is not carried out".
-use Rattle.std.specs.Prelude.{ℕ, zero, suc, ◌+◌, List, Bool, cond, not, ◌&&◌, eqb, ltb, length}
+use Rattle.std.specs.Prelude.{ℕ, zero, suc, ◌+◌, List, Bool, cond, not, ◌&&◌, eqb, ltb, length, Ok, Err}
 use Rattle.tasks.specs.declared.task.Task.{Task}
 use Rattle.tasks.specs.declared.table.Table.{Table}
-use Rattle.tasks.specs.declared.outcome.Outcome.TheVariants.{Done, Refused}
+use Rattle.tasks.specs.declared.refusals.Refusal.{Refusal}
+use Rattle.tasks.specs.declared.refusals.Reason.TheVariants.{TextTooLong, BadNamesLine, TooManyTasks, BadValueLine, TaskOutOfRange, NoTask}
 use Rattle.tasks.specs.Limits.{max_tasks, max_text_length}
-use Rattle.tasks.specs.Refusals.{text_too_long, bad_names_line, too_many_tasks, bad_value_line, task_out_of_range, no_task}
+use Rattle.tasks.specs.Refusals.{refusal}
 use Rattle.tasks.specs.Task.{in_range}
 use Rattle.tasks.specs.Table.{empty_table, with_task}
 use Rattle.reader.specs.declared.names.Columns.{Columns}
@@ -15,8 +16,8 @@ use Rattle.reader.specs.Value.{is_value}
 use Rattle.reader.specs.Names.{columns_of, begins_with_names}
 
 -- "A refused reading hands back a table of zero tasks with all its numbers 0"
-unfoldable pub refused : ℕ → ℕ → Reading
-refused number place = record { table = empty_table; outcome = Refused number place }
+unfoldable pub refused : Refusal → Reading
+refused why = record { table = empty_table; outcome = Err why }
 
 -- whether a line is "three well-formed values"
 unfoldable pub three_values : List ℕ → Bool
@@ -33,21 +34,21 @@ task_of c l =
 
 -- what reading gives where the table t is read and nothing follows: "6. The table has no task.", or the table
 unfoldable pub ended : Table → Reading
-ended t = cond (eqb t.count 0) (refused no_task 0) (record { table = t; outcome = Done })
+ended t = cond (eqb t.count 0) (refused (refusal NoTask 0)) (record { table = t; outcome = Ok tt })
 
 -- "Value lines go in turn, each through 3, 4, 5", and "After each line, reading goes on with the rest of the text": c has the columns, t the
 -- tasks so far, n is how many more a table can have, and s is the rest of the text
 unfoldable pub value_lines : Columns → (n : ℕ) → Table → List ℕ → Reading
-value_lines c zero t s = cond (is_empty s) (ended t) (refused too_many_tasks (t.count + 1))
+value_lines c zero t s = cond (is_empty s) (ended t) (refused (refusal TooManyTasks (t.count + 1)))
 value_lines c (suc n) t s =
     let task = task_of c (before line_end s) in
     cond (is_empty s) (ended t)
-    (cond (not (begins_with_values s)) (refused bad_value_line (t.count + 1))
-    (cond (not (in_range task)) (refused task_out_of_range (t.count + 1)) (value_lines c n (with_task t task) (after line_end s))))
+    (cond (not (begins_with_values s)) (refused (refusal BadValueLine (t.count + 1)))
+    (cond (not (in_range task)) (refused (refusal TaskOutOfRange (t.count + 1))) (value_lines c n (with_task t task) (after line_end s))))
 
 -- what reading a text gives. "Reading: 1 to 6": a text that is too long, then its names line, then its value lines
 unfoldable pub reading : List ℕ → Reading
 reading s =
-    cond (ltb max_text_length (length s)) (refused text_too_long 0)
-    (cond (not (begins_with_names s)) (refused bad_names_line 0)
+    cond (ltb max_text_length (length s)) (refused (refusal TextTooLong 0))
+    (cond (not (begins_with_names s)) (refused (refusal BadNamesLine 0))
     (value_lines (columns_of (before line_end s)) max_tasks empty_table (after line_end s)))

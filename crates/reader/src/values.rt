@@ -1,93 +1,71 @@
 // Value lines: three values, and the task that they make.
-ghost use Rattle.std.specs.Prelude.{◌+◌, ◌<◌, ◌≡◌, true, cond, ◌&&◌, [], ◌∷◌, length, get_or, set};
-ghost use Rattle.text.specs.Lines.{line_end, has, before, field};
-ghost use Rattle.text.specs.Number.{decimal};
-ghost use Rattle.reader.specs.Value.{is_value};
+ghost use Rattle.std.specs.Prelude.{◌≡◌, true};
 ghost use Rattle.reader.specs.Names.{each_named};
-ghost use Rattle.reader.specs.Reading.{begins_with_values};
+ghost use Rattle.reader.specs.Parts.{value_up_to, value_line, task_in};
 
 use crate::names::Columns;
 use tasks::task::Task;
+use text::fields::ThreeNumbers;
+use text::number::LeadingNumber;
 
 // The longest value, in digits.
 const VALUE_DIGITS: usize = 7;
 
-// Puts the value that stands before the first byte `end` of a text into one of three places: how many bytes the value has. Where no value stands
-// there, or it is not ended, that is 0, and nothing is put.
-fn value_up_to(text: &[u8], end: u8, values: &mut [u32; 3], place: usize) -> usize
-    requires { place < 3 }
-    ensures result_value { let s = text.now in result ≡ cond (has end s && is_value (before end s)) (length (before end s)) 0 }
-    ensures values_after { let s = text.now in
-        values.new
-        ≡ cond (has end s && is_value (before end s)) (set values.old place (decimal (before end s))) values.old }
+// The value that stands before the first byte `end` of a text, if one does and is ended. The loop ends at the eighth byte, so that the compiler can
+// unroll it where it is used: with `text::number::number_up_to`, or not inlined, reading takes a fifth longer.
+#[inline(always)]
+fn value_up_to(text: &[u8], end: u8) -> Option<LeadingNumber>
+    ensures { result ≡ value_up_to end text.now }
 {
     let mut number: u32 = 0;
-    let mut i: usize = 0;
-    while i < text.len() {
-        let byte = text[i];
+    for (i, &byte) in text.iter().enumerate() {
         if byte == end {
             if i == 0 {
-                return 0;
+                return None;
             }
-            values[place] = number;
-            return i;
+            return Some(LeadingNumber { number, length: i });
         }
-        if byte < b'0' {
-            return 0;
-        }
-        if b'9' < byte {
-            return 0;
+        if byte < b'0' || b'9' < byte {
+            return None;
         }
         if VALUE_DIGITS <= i {
-            return 0;
+            return None;
         }
-        if number == 0 {
-            if 0 < i {
-                return 0;
-            }
+        if number == 0 && 0 < i {
+            return None;
         }
         number = number * 10 + (byte - b'0') as u32;
-        i += 1;
     }
-    0
+    None
 }
 
-// Puts the values of the value line that a text begins with: how many bytes the line has with its byte 10. Where the text begins with none, 0.
-pub(crate) fn value_line(text: &[u8], values: &mut [u32; 3]) -> usize
-    requires { length values.old ≡ 3 }
-    ensures result_value { let s = text.now in result ≡ cond (begins_with_values s) (length (before line_end s) + 1) 0 }
-    ensures fact { let s = text.now in let line = before line_end s in
-        (begins_with_values s ≡ true → values.new ≡ decimal (field 0 line) ∷ decimal (field 1 line) ∷ decimal (field 2 line) ∷ []) }
+// The value line that a text begins with, if it begins with one, which is ended. Its length is without its byte 10.
+pub(crate) fn value_line(text: &[u8]) -> Option<ThreeNumbers>
+    ensures { result ≡ value_line text.now }
 {
-    let first = value_up_to(text, b' ', values, 0);
-    if first == 0 {
-        return 0;
-    }
-    let rest = &text[first + 1..];
-    let second = value_up_to(rest, b' ', values, 1);
-    if second == 0 {
-        return 0;
-    }
-    let last = &rest[second + 1..];
-    let third = value_up_to(last, b'\n', values, 2);
-    if third == 0 {
-        return 0;
-    }
-    first + 1 + second + 1 + third + 1
+    let first = value_up_to(text, b' ')?;
+    let rest = &text[first.length + 1..];
+    let second = value_up_to(rest, b' ')?;
+    let last = &rest[second.length + 1..];
+    let third = value_up_to(last, b'\n')?;
+    Some(ThreeNumbers {
+        first: first.number,
+        second: second.number,
+        third: third.number,
+        length: first.length + 1 + second.length + 1 + third.length,
+    })
 }
 
 // The task whose numbers stand in the columns of a value line.
-pub(crate) fn task_of(values: &[u32; 3], columns: Columns) -> Task
+#[tactic(auto, using(crate::proofs::ValueLine::columns_below), unfolding(crate::specs::Parts::task_in))]
+pub(crate) fn task_of(line: ThreeNumbers, columns: Columns) -> Task
     requires { each_named columns ≡ true }
-    ensures { let vs = values.now in
-        result ≡ record { period = get_or vs columns.period 0; budget = get_or vs columns.budget 0; deadline = get_or vs columns.deadline 0 } }
+    ensures { result ≡ task_in columns line }
 {
-    let period = columns.period;
-    let budget = columns.budget;
-    let deadline = columns.deadline;
+    let values = [line.first, line.second, line.third];
     Task {
-        period: values[period],
-        budget: values[budget],
-        deadline: values[deadline],
+        period: values[columns.period],
+        budget: values[columns.budget],
+        deadline: values[columns.deadline],
     }
 }

@@ -1,4 +1,3 @@
-pub mod CallsStart
 pub mod Playing
 pub mod ScriptLaws
 pub mod ExamplesHold

@@ -1,4 +1,3 @@
 pub mod Words
-pub mod Calls
 pub mod Script
 pub mod Examples

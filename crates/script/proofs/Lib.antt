@@ -5,3 +5,4 @@ pub mod ReportNumbers
 pub mod FewBytes
 pub mod WordLineLaws
 pub mod WordLineMore
+pub mod Stripped

@@ -3,9 +3,10 @@
 -- found.
 use Prim.Native.Nat.{ℕ, ◌+◌, ◌≤◌, ◌<◌}
 use native.Mathlib.Omega.{arith}
-use mathlib.Core.Path.{◌≡◌, refl, sym, ap, ◌∙◌}
+use mathlib.Core.Path.{◌≡◌, refl, sym, ap, subst, ◌∙◌}
 use mathlib.Core.Bool.{true, false, cond}
 use mathlib.Core.List.{List, [], ◌∷◌}
+use Rattle.std.specs.Prelude.{Ok, Err}
 use lib.ListN.{length, take, drop, drop_of_length-le}
 use lib.Seq.{drop-drop}
 use Rattle.laws.proofs.CaseSplits.{by_cond, clash}
@@ -15,7 +16,7 @@ use Rattle.text.specs.Words.{same_bytes}
 use Rattle.text.proofs.Split.{Cut, cut, hasnt_of}
 use Rattle.text.proofs.LineLaws.{lines_more, lines_none, total, total_lines}
 use Rattle.script.specs.WordLine.{word_line_from, word_line}
-use Rattle.script.specs.declared.word_line.WordLine.TheVariants.{Found, Missing}
+use Rattle.script.specs.declared.word_line.WordLine.{WordLine}
 
 -- the word is none of the lines before a place, where the line n begins
 pub record Looking (word s : List ℕ) (place n : ℕ) : Type 0 where
@@ -29,13 +30,13 @@ looking_none word s = record { within = omega arith; few = omega arith; left = r
 
 module _ (word s : List ℕ) (place n : ℕ) (p : Looking word s place n) where
   -- nothing is left of the text
-  pub looked_all : length s ≤ place → Missing n ≡ word_line word s
+  pub looked_all : length s ≤ place → Err n ≡ word_line word s
   unfolding word_line_from lines
   looked_all h = sym (p.left ∙ rw (drop_of_length-le s h))
 
   -- the next byte 10 of what is left
   module _ (r : ℕ) (e : r ≡ length (before line_end (from s place))) where
-    pub not_ended_lem : length (from s place) ≤ r → Missing n ≡ word_line word s
+    pub not_ended_lem : length (from s place) ≤ r → Err n ≡ word_line word s
     unfolding word_line_from
     not_ended_lem h =
         let z : has line_end (from s place) ≡ false = hasnt_of line_end (from s place) (rw e at h) in
@@ -55,7 +56,7 @@ module _ (word s : List ℕ) (place n : ℕ) (p : Looking word s place n) where
 
       next_line :
           word_line word s
-          ≡ cond (same_bytes (take r (from s place)) word) (Found place (place + r + 1) (n + 1))
+          ≡ cond (same_bytes (take r (from s place)) word) (Ok (record { start = place; next = place + r + 1; line = n + 1 }))
           (word_line_from word (place + r + 1) (n + 1) (lines (drop (place + r + 1) s)))
       unfolding word_line_from
       next_line =
@@ -63,37 +64,35 @@ module _ (word s : List ℕ) (place n : ℕ) (p : Looking word s place n) where
           ∙ rw (lines_more (drop place s) line.is, rest, ← line.front, from_drop s place)
           (rw (ap length line.front ∙ ap (λ (t : List ℕ). length (before line_end t)) (sym (from_drop s place)) ∙ sym e))
 
-      pub looked_here : same_bytes (take r (from s place)) word ≡ true → Found place (place + r + 1) (n + 1) ≡ word_line word s
+      pub looked_here : same_bytes (take r (from s place)) word ≡ true → Ok (record { start = place; next = place + r + 1; line = n + 1 }) ≡ word_line word s
       looked_here t = sym (next_line ∙ rw t)
 
       pub looking_more : same_bytes (take r (from s place)) word ≡ false → Looking word s (place + r + 1) (n + 1)
       looking_more t = record { within = line_fits; few = omega (arith, p.few); left = next_line ∙ rw t }
 
--- where the word is found among some lines, and where it was expected
-pub record Within (n place next line : ℕ) : Type 0 where
-  pub ends : place ≤ n
-  pub starts : next ≤ n
-  pub few : line ≤ n + 3
+-- where the word is found among some lines: all within a text of n bytes
+pub record Within (n : ℕ) (w : WordLine) : Type 0 where
+  pub ends : w.start ≤ n
+  pub starts : w.next ≤ n
+  pub few : w.line ≤ n + 3
 
 found_from :
-    (word : List ℕ) (place n : ℕ) (ls : List (List ℕ)) (t k l : ℕ) → word_line_from word place n ls ≡ Found t k l → n ≤ place + 2 → Within (place + total ls) t k l
+    (word : List ℕ) (place n : ℕ) (ls : List (List ℕ)) (w : WordLine) → word_line_from word place n ls ≡ Ok w → n ≤ place + 2 → Within (place + total ls) w
 unfolding word_line_from total
-found_from word place n [] t k l e h = clash cc
-found_from word place n (x ∷ ls) t k l e h =
-    by_cond (λ r. r ≡ Found t k l → Within (place + (length x + 1 + total ls)) t k l) (same_bytes x word)
+found_from word place n [] w e h = clash cc
+found_from word place n (x ∷ ls) w e h =
+    by_cond (λ r. r ≡ Ok w → Within (place + (length x + 1 + total ls)) w) (same_bytes x word)
     (λ b e.
-    let q₁ : place ≡ t = cc in
-    let q₂ : place + length x + 1 ≡ k = cc in
-    let q₃ : n + 1 ≡ l = cc in
-    record { ends = omega arith; starts = omega arith; few = omega arith })
+    let q : record { start = place; next = place + length x + 1; line = n + 1 } ≡ w = cc in
+    subst (Within _) q (record { ends = omega arith; starts = omega arith; few = omega arith }))
     (λ b e.
-    let w = found_from word (place + length x + 1) (n + 1) ls t k l e (omega arith) in
-    record { ends = omega (arith, w.ends); starts = omega (arith, w.starts); few = omega (arith, w.few) })
+    let later = found_from word (place + length x + 1) (n + 1) ls w e (omega arith) in
+    record { ends = omega (arith, later.ends); starts = omega (arith, later.starts); few = omega (arith, later.few) })
     e
 
-pub found_within : (word s : List ℕ) (t k l : ℕ) → word_line word s ≡ Found t k l → Within (length s) t k l
+pub found_within : (word s : List ℕ) (w : WordLine) → word_line word s ≡ Ok w → Within (length s) w
 unfolding word_line
-found_within word s t k l e =
-    let w = found_from word 0 2 (lines s) t k l e (omega arith) in
+found_within word s w e =
+    let found = found_from word 0 2 (lines s) w e (omega arith) in
     let m = total_lines s in
-    record { ends = omega (arith, w.ends); starts = omega (arith, w.starts); few = omega (arith, w.few) }
+    record { ends = omega (arith, found.ends); starts = omega (arith, found.starts); few = omega (arith, found.few) }

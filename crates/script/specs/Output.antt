@@ -1,10 +1,11 @@
 -- What is printed for a call (docs/HANDBOOK.md, "Replaying calls"): "Output, one line per call, each ended by byte 10".
-use Rattle.std.specs.Prelude.{ℕ, zero, suc, ◌+◌, ◌*◌, ◌≤◌, Bool, false, cond, List, [], ◌∷◌, ◌++◌, length, get_or}
+use Rattle.std.specs.Prelude.{ℕ, zero, suc, ◌+◌, ◌*◌, ◌≤◌, ◌≡◌, Bool, false, cond, List, [], ◌∷◌, ◌++◌, length, get_or, Ok, Err}
 use Rattle.text.specs.Lines.{line_end}
-use Rattle.text.specs.Output.{Put, numbers_line, refused_line}
+use Rattle.text.specs.Output.{put, numbers_line, refused_line}
+use Rattle.text.specs.declared.output.Output.{Output}
 use Rattle.tasks.specs.Limits.{max_tasks, max_cores}
-use Rattle.tasks.specs.declared.outcome.Outcome.{Outcome}
-use Rattle.tasks.specs.declared.outcome.Outcome.TheVariants.{Done, Refused}
+use Rattle.tasks.specs.Outcome.{Outcome}
+use Rattle.tasks.specs.Refusals.{number_of}
 use Rattle.machine.specs.declared.call.Call.{Call}
 use Rattle.machine.specs.declared.call.Call.TheVariants.{Release, Finish, Slot, Offer, Commit}
 use Rattle.machine.specs.declared.answer.Answer.{Answer}
@@ -36,8 +37,8 @@ accepted_line Commit r = done_word ++ line_end ∷ []
 
 -- the line of a call that had an outcome and a report: "`REFUSED n` for a refused call"
 unfoldable pub outcome_line : Outcome → Call → Report → List ℕ
-outcome_line Done call r = accepted_line call r
-outcome_line (Refused number place) call r = refused_line number
+outcome_line (Ok _) call r = accepted_line call r
+outcome_line (Err why) call r = refused_line (number_of why.reason)
 
 -- the line of a call and its answer
 unfoldable pub answer_line : Call → Answer → List ℕ
@@ -51,7 +52,7 @@ refusal_room = 32
 abbrev pub answer_room : ℕ
 answer_room = 4 * (10 + 1) + max_cores * (2 + 1)
 
--- a text of at most so many bytes was put after the first `used` bytes of an array
-pub record PutWithin (most : ℕ) (before : List ℕ) (used : ℕ) (text after : List ℕ) (r : ℕ) : Type 0 where
-  pub put : Put before used text after r
+-- a text of at most so many bytes was put in an output
+pub record PutsWithin {N : ℕ} (most : ℕ) (before : Output N) (text : List ℕ) (after : Output N) : Type 0 where
+  pub whole : after ≡ put before text
   pub few : length text ≤ most

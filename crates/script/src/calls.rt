@@ -2,69 +2,60 @@
 ghost use Rattle.std.specs.Prelude.{◌≡◌};
 ghost use Rattle.script.specs.Calls.{release_of, task_fields, offer_of, call_of};
 
-use crate::task::{TaskFields, task_fields};
+use crate::task::task_fields;
 use machine::call::Call;
-use text::number::Number;
-use text::{bytes, fields, number};
+use text::bytes::same;
+use text::fields::fill_from_line;
+use text::number::{Limits, number_after};
 
-// The longest number of a script, in digits.
-pub const MAX_DIGITS: usize = 10;
+// A number of a script has at most 10 digits, and is one of 32 bits.
+pub const NUMBERS: Limits = Limits {
+    digits: 10,
+    largest: 4_294_967_295,
+};
 
-// The largest number of a script.
-pub const MAX_NUMBER: u32 = 4_294_967_295;
-
-// The call that a line is, or that it is none.
-#[derive(Clone, Copy)]
-pub enum CallLine {
-    Read(Call),
-    Bad,
-}
-
-// The release of the fields of a line.
-fn release_fields(fields: &[u8]) -> CallLine
+// The release of the fields of a line, if they are two numbers.
+fn release_fields(fields: &[u8]) -> Option<Call>
     ensures { result ≡ release_of fields.now }
 {
     let mut numbers = [0u32; 2];
-    if !fields::fill_from_line(fields, &mut numbers, MAX_DIGITS, MAX_NUMBER) {
-        return CallLine::Bad;
+    if !fill_from_line(fields, &mut numbers, NUMBERS) {
+        return None;
     }
-    CallLine::Read(Call::Release {
+    Some(Call::Release {
         number: numbers[0],
         need: numbers[1],
     })
 }
 
-// The offer of the fields of a line.
-fn offer_fields(fields: &[u8]) -> CallLine
+// The offer of the fields of a line, if they are a task.
+#[tactic(auto, unfolding(crate::specs::Calls::offer_of))]
+fn offer_fields(fields: &[u8]) -> Option<Call>
     ensures { result ≡ offer_of (task_fields fields.now) }
 {
-    let read = task_fields(fields);
-    let TaskFields::Read(task) = read else {
-        return CallLine::Bad;
-    };
-    CallLine::Read(Call::Offer(task))
+    let task = task_fields(fields)?;
+    Some(Call::Offer(task))
 }
 
-// The call of a line.
-pub fn call_line(line: &[u8]) -> CallLine
+// The call of a line, if it is one.
+#[tactic(auto, unfolding(crate::specs::Calls::call_of, crate::specs::Calls::call_with))]
+pub fn call_line(line: &[u8]) -> Option<Call>
     ensures { result ≡ call_of line.now }
 {
-    if let Number::Read(available) = number::number_after(line, b"SLOT ", MAX_DIGITS, MAX_NUMBER) {
-        return CallLine::Read(Call::Slot(available));
+    if let Some(available) = number_after(line, b"SLOT ", NUMBERS) {
+        return Some(Call::Slot(available));
     }
-    if let Number::Read(number) = number::number_after(line, b"FINISH ", MAX_DIGITS, MAX_NUMBER) {
-        return CallLine::Read(Call::Finish(number));
+    if let Some(number) = number_after(line, b"FINISH ", NUMBERS) {
+        return Some(Call::Finish(number));
     }
-    let release = b"RELEASE ";
-    if bytes::begins_with(line, release) {
-        return release_fields(&line[release.len()..]);
+    if let Some(fields) = line.strip_prefix(b"RELEASE ") {
+        return release_fields(fields);
     }
-    let offer = b"OFFER ";
-    if bytes::begins_with(line, offer) {
-        return offer_fields(&line[offer.len()..]);
+    if let Some(fields) = line.strip_prefix(b"OFFER ") {
+        return offer_fields(fields);
     }
-    if bytes::same(line, b"COMMIT") {
-        return CallLine::Read(Call::Commit);
+    if same(line, b"COMMIT") {
+        return Some(Call::Commit);
     }
-    CallLine::Bad
+    None
 }

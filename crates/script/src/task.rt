@@ -2,26 +2,19 @@
 ghost use Rattle.std.specs.Prelude.{◌≡◌};
 ghost use Rattle.script.specs.Calls.{task_fields};
 
-use crate::calls::{MAX_DIGITS, MAX_NUMBER};
+use crate::calls::NUMBERS;
 use tasks::task::Task;
 use text::fields::fill_from_line;
 
-// The task that some fields are, or that they are none.
-#[derive(Clone, Copy)]
-pub enum TaskFields {
-    Read(Task),
-    Bad,
-}
-
-// The task of the fields of a line.
-pub fn task_fields(fields: &[u8]) -> TaskFields
+// The task of the fields of a line, if they are three numbers.
+pub fn task_fields(fields: &[u8]) -> Option<Task>
     ensures { result ≡ task_fields fields.now }
 {
     let mut numbers = [0u32; 3];
-    if !fill_from_line(fields, &mut numbers, MAX_DIGITS, MAX_NUMBER) {
-        return TaskFields::Bad;
+    if !fill_from_line(fields, &mut numbers, NUMBERS) {
+        return None;
     }
-    TaskFields::Read(Task {
+    Some(Task {
         period: numbers[0],
         budget: numbers[1],
         deadline: numbers[2],

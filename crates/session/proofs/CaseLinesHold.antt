@@ -6,7 +6,7 @@ use lib.ListN.{length}
 use Rattle.text.specs.Number.{digits_of, decimal_text}
 use Rattle.text.specs.Output.{further_numbers, numbers_line}
 use Rattle.machine.proofs.Computing.{computing}
-use Rattle.session.specs.Printed.{slot_line, slot_lines_from, releases, session, case_j, case_k, printed}
+use Rattle.session.specs.Printed.{slot_line, slot_lines_from, releases, session, case_j, case_k, printed, room}
 use Rattle.session.specs.CaseLines.{case_lines}
 
 pub case_lines_hold : printed ≡ case_lines
@@ -14,6 +14,6 @@ unfolding computing digits_of decimal_text further_numbers numbers_line slot_lin
 case_lines_hold = refl
 
 -- eleven lines of eight bytes
-pub printed_few : length printed ≤ 88
+pub printed_few : length printed ≤ room
 unfolding case_lines
 printed_few = rw case_lines_hold (omega arith)

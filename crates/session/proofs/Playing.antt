@@ -1,12 +1,10 @@
 -- The lines of a log, one call at a time. Others cite `Released` with `released_none` and `released_more` (the loop of releases),
--- `session_lines` (a case), and `Playing` with `play_none`, `play_more` and `play_all` (the loop of slots).
+-- `session_lines` (a case), and `slots_from` with `next_slot` and `no_slot` (the loop of slots).
 use Prim.Native.Nat.{ℕ, suc, ◌+◌, ◌-◌, ◌≤◌, ◌<◌}
 use native.Mathlib.Omega.{arith}
 use mathlib.Core.Path.{◌≡◌, refl}
 use mathlib.Core.List.{List, [], ◌∷◌, ◌++◌, append_assoc}
 use lib.ListN.{length, get_or, replicate}
-use Rattle.text.specs.Output.{Put}
-use Rattle.text.proofs.Putting.{Partly, partly_none, partly_more, partly_all}
 use Rattle.tasks.specs.Table.{zero_task}
 use Rattle.tasks.specs.declared.task.Task.{Task}
 use Rattle.tasks.specs.declared.table.Table.{Table}
@@ -45,28 +43,15 @@ session_lines tasks cores slots m a t h e f =
     rw q (rw f at (h (replicate slots (Slot cores))))
 
 -- the lines of some slots of a machine, with k cores each, the first of which has the number n
-abbrev slots_from : ℕ → Machine → (k slots : ℕ) → List ℕ
+abbrev pub slots_from : (n : ℕ) → Machine → (k slots : ℕ) → List ℕ
 slots_from n m k slots = slot_lines_from n (play m (replicate slots (Slot k)))
 
--- after n slots of m₀: the lines of the slots that are left are still to come
-pub record Playing (before : List ℕ) (used : ℕ) (m₀ : Machine) (k slots : ℕ) (after : List ℕ) (at : ℕ) (m : Machine) (n : ℕ) : Type 0 where
-  pub lines : Partly before used (slots_from 1 m₀ k slots) after at (slots_from (n + 1) m k (slots - n))
-  pub within : n ≤ slots
-
-pub play_none : (a : List ℕ) (u : ℕ) (m : Machine) (k slots : ℕ) → Playing a u m k slots a u m 0
-play_none a u m k slots =
-    let e : slots - 0 ≡ slots = omega arith in
-    record { lines = rw e (partly_none a u (slots_from 1 m k slots)); within = omega arith }
-
-module _ (a : List ℕ) (u : ℕ) (m₀ : Machine) (k slots : ℕ) (b : List ℕ) (v : ℕ) (m : Machine) (n : ℕ) (p : Playing a u m₀ k slots b v m n) where
-  pub play_more :
-      n < slots → (c : List ℕ) (w : ℕ) → Put b v (slot_line (n + 1) (slot m k).report) c w
-      → Playing a u m₀ k slots c w (slot m k).machine (n + 1)
+-- of slots, i of which were played on the way to m: the line of the next one, and those after it; and that none is left
+module _ (n : ℕ) (m : Machine) (k slots i : ℕ) where
+  pub next_slot : i < slots → slots_from n m k (slots - i) ≡ slot_line n (slot m k).report ++ slots_from (n + 1) (slot m k).machine k (slots - (i + 1))
   unfolding play step is_slot slot_lines_from
-  play_more l c w g =
-      let e : slots - n ≡ suc (slots - (n + 1)) = omega arith in
-      record { lines = partly_more a u _ b v _ _ (rw e at p.lines) c w g; within = omega arith }
+  next_slot more = let e : slots - i ≡ suc (slots - (i + 1)) = omega arith in rw e
 
-  pub play_all : slots ≤ n → Put a u (slots_from 1 m₀ k slots) b v
+  pub no_slot : slots ≤ i → slots_from n m k (slots - i) ≡ []
   unfolding play slot_lines_from
-  play_all l = let e : slots - n ≡ 0 = omega arith in partly_all a u _ b v (rw e at p.lines)
+  no_slot none = let e : slots - i ≡ 0 = omega arith in rw e

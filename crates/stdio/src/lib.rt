@@ -2,7 +2,8 @@
 // what holds whatever it is.
 #![tactic(auto)]
 
-ghost use Rattle.std.specs.Prelude.{◌<◌, ◌≡◌, false, length};
+ghost use Rattle.std.specs.Prelude.{◌≡◌, false};
+ghost use Rattle.std.specs.Option.{IsNone};
 ghost use Rattle.io.specs.Counts.{IsPrefixLen};
 
 use std::io::{Input, Print, Read};
@@ -13,23 +14,20 @@ pub fn read_input<R: Input>(rt: &R, input: &mut [u8]) -> usize
 {
     let mut reader = rt.reader();
     let mut done = 0;
-    while done < input.len() {
-        let n = reader.read(&mut input[done..]).unwrap_or(0);
-        if n == 0 {
-            break;
-        }
+    // No `for`: a read gives as many bytes as it likes.
+    while let Ok(n @ 1..) = reader.read(&mut input[done..]) {
         done += n;
     }
     done
 }
 
-// Writes the first `used` bytes of an array to standard output. Where the array has fewer, nothing is written and the answer is false; it is
+// Writes a text to standard output. Where there is none, as where what was put together had no room, nothing is written and the answer is false; it is
 // false too where a write fails.
-pub fn write_output<P: Print>(rt: &P, output: &[u8], used: usize) -> bool
-    ensures { length output.now < used → result ≡ false }
+pub fn write_output<P: Print>(rt: &P, text: Option<&[u8]>) -> bool
+    ensures { IsNone text.entry → result ≡ false }
 {
-    if output.len() < used {
+    let Some(text) = text else {
         return false;
-    }
-    rt.write_all(&output[..used]).is_ok()
+    };
+    rt.write_all(text).is_ok()
 }

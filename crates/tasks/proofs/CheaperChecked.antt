@@ -11,7 +11,7 @@ use Rattle.tasks.specs.TaskSet.{first_tasks, tasks_of}
 use Rattle.tasks.specs.Check.{checked}
 use Rattle.tasks.specs.Cheaper.{Cheaper}
 use Rattle.tasks.specs.declared.table.Table.{Table}
-use Rattle.tasks.specs.declared.outcome.Outcome.TheVariants.{Done}
+use Rattle.std.proofs.Common.{Ok}
 use Rattle.tasks.proofs.Checked.{passes, passed}
 use Rattle.tasks.proofs.Range.{range_of, in_range_lem}
 
@@ -24,7 +24,7 @@ module _ (t : Table) (m : ℕ) (t' : Table) (m' : ℕ) (c : Cheaper t m t' m') w
       let inside : last < t'.count = omega (arith, c.one_remains) in
       omega (arith, c.tasks.was_there last inside, rising_past c.tasks.was t'.count c.tasks.in_order last inside)
 
-  module _ (can-be-judged : checked t m ≡ Done) where
+  module _ (can-be-judged : checked t m ≡ Ok tt) where
     task_in_range : (i : ℕ) → i < t'.count → in_range (get_or t'.tasks i zero_task) ≡ true
     unfolding tasks_of first_tasks
     task_in_range i h =
@@ -38,7 +38,7 @@ module _ (t : Table) (m : ℕ) (t' : Table) (m' : ℕ) (c : Cheaper t m t' m') w
           period_fits = omega (arith, c.period_fits i h);
         })
 
-    pub cheaper_checked : checked t' m' ≡ Done
+    pub cheaper_checked : checked t' m' ≡ Ok tt
     cheaper_checked =
         let before = passes t m can-be-judged in
         passed t' m'

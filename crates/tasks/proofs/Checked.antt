@@ -1,5 +1,5 @@
 -- What it takes for a table and a number of cores to pass `checked`: `passes`, and the fields of `Passes`; and `passed`, that these are all. The refusals
--- of those that do not have numbers of 1 or 2 digits, and none is number 0: `checked_numbered`.
+-- of those that do not are not number 0: `checked_not_0`.
 use Prim.Native.Nat.{ℕ, zero, suc, ◌+◌, ◌≤◌, ◌<◌}
 use native.Mathlib.Omega.{arith}
 use mathlib.Core.Path.{◌≡◌, refl}
@@ -11,15 +11,17 @@ use borrow.Author.Tests.{not-false, leb-true, ltb-false, eqb-true, eqb-false, le
 use Rattle.laws.proofs.CaseSplits.{by_order, by_cond}
 use Rattle.laws.proofs.Booleans.{and_left, and_right}
 use Rattle.tasks.specs.Limits.{max_tasks, max_cores}
-use Rattle.tasks.specs.Refusals.{too_many_tasks, no_task, task_out_of_range, cores_out_of_range}
+use Rattle.tasks.specs.Refusals.{number_of, refusal}
+use Rattle.tasks.specs.Outcome.{Outcome}
 use Rattle.tasks.specs.Task.{in_range}
 use Rattle.tasks.specs.Table.{zero_task}
 use Rattle.tasks.specs.Check.{first_out_of_range, cores_in_range, checked}
 use Rattle.tasks.specs.declared.task.Task.{Task}
 use Rattle.tasks.specs.declared.table.Table.{Table}
-use Rattle.tasks.specs.declared.outcome.Outcome.{Outcome}
-use Rattle.tasks.specs.declared.outcome.Outcome.TheVariants.{Done, Refused}
-use Rattle.tasks.proofs.OutcomeLaws.{past_test, Numbered, done_numbered, refused_numbered}
+use Rattle.tasks.specs.declared.refusals.Refusal.{Refusal}
+use Rattle.tasks.specs.declared.refusals.Reason.TheVariants.{TooManyTasks, NoTask, TaskOutOfRange, CoresOutOfRange}
+use Rattle.std.proofs.Common.{Ok, Err}
+use Rattle.tasks.proofs.OutcomeLaws.{past_test, Not0, done_not_0, refused_not_0}
 
 pub record Passes (t : Table) (m : ℕ) : Type 0 where
   pub count_some : 1 ≤ t.count
@@ -41,13 +43,13 @@ none_out tasks (suc n) i e j l h =
     (λ out none. absurd (omega arith))
     e
 
-pub passes : (t : Table) (m : ℕ) → checked t m ≡ Done → Passes t m
+pub passes : (t : Table) (m : ℕ) → checked t m ≡ Ok tt → Passes t m
 unfolding checked cores_in_range
 passes t m =
-    past_test _ _ _ λ few.
-    past_test (eqb t.count 0) _ _ λ some.
-    past_test _ _ _ λ none.
-    past_test _ _ _ λ cores e.
+    past_test _ _ λ few.
+    past_test (eqb t.count 0) _ λ some.
+    past_test _ _ λ none.
+    past_test _ _ λ cores e.
     let fit = not-false _ cores in
     record {
       count_some = let not-0 = eqb-false t.count 0 some in omega arith;
@@ -63,7 +65,7 @@ unfolding first_out_of_range
 all_in tasks zero i each = refl
 all_in tasks (suc n) i each = rw (each i (omega arith) (omega arith)) (all_in tasks n (i + 1) (λ j l h. each j (omega arith) (omega arith)))
 
-pub passed : (t : Table) (m : ℕ) → Passes t m → checked t m ≡ Done
+pub passed : (t : Table) (m : ℕ) → Passes t m → checked t m ≡ Ok tt
 unfolding checked cores_in_range
 passed t m fit =
     let in_table_lem : (i : ℕ) → 0 ≤ i → i < 0 + t.count → in_range (get_or t.tasks i zero_task) ≡ true = λ i l h. fit.tasks_fit i (omega arith) in
@@ -75,15 +77,15 @@ passed t m fit =
       le-leb m max_cores fit.cores_fit,
     )
 
--- past a test that refuses by such a number
-other_test :
-    (test : Bool) (number place : ℕ) {o : Outcome} → (0 < number) × (number < 100) → Numbered o → Numbered (cond test (Refused number place) o)
-other_test test number place h rest = by_cond Numbered test (λ yes. refused_numbered number place h) (λ no. rest)
+-- past a test that refuses by another number
+other_test : (test : Bool) (why : Refusal) {o : Outcome} → 1 ≤ number_of why.reason → Not0 o → Not0 (cond test (Err why) o)
+other_test test why h rest = by_cond Not0 test (λ yes. refused_not_0 why h) (λ no. rest)
 
-pub checked_numbered : (t : Table) (m : ℕ) → Numbered (checked t m)
+pub checked_not_0 : (t : Table) (m : ℕ) → Not0 (checked t m)
 unfolding checked
-checked_numbered t m =
+checked_not_0 t m =
     let place = first_out_of_range t.tasks 0 t.count in
-    other_test (ltb max_tasks t.count) too_many_tasks (max_tasks + 1) (omega arith)
-    (other_test (eqb t.count 0) no_task 0 (omega arith)
-    (other_test (not (eqb place 0)) task_out_of_range place (omega arith) (other_test (not (cores_in_range m)) cores_out_of_range 0 (omega arith) done_numbered)))
+    other_test (ltb max_tasks t.count) (refusal TooManyTasks (max_tasks + 1)) (omega arith)
+    (other_test (eqb t.count 0) (refusal NoTask 0) (omega arith)
+    (other_test (not (eqb place 0)) (refusal TaskOutOfRange place) (omega arith)
+    (other_test (not (cores_in_range m)) (refusal CoresOutOfRange 0) (omega arith) done_not_0)))

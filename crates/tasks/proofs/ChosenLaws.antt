@@ -1,6 +1,6 @@
 -- Some tasks of a list, chosen by flags. Others cite: `picked`, where in the list each chosen task stands, with `picked_there`, `picked_rises` and `picked_task`;
 -- `chosen_few`, that there are no more than in the list; and `but_one`, that a list without one entry is such a choice.
-use Prim.Native.Nat.{ℕ, zero, suc, ◌+◌, ◌≤◌, ◌<◌}
+use Prim.Native.Nat.{ℕ, zero, suc, ◌≤◌, ◌<◌}
 use native.Mathlib.Omega.{arith}
 use mathlib.Core.Path.{◌≡◌, refl, ap}
 use mathlib.Core.Bool.{Bool, true, false}

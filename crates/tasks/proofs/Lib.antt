@@ -1,9 +1,9 @@
 pub mod Checked
 pub mod Range
-pub mod Small
 pub mod TaskSetLaws
 pub mod OutcomeLaws
 pub mod Numbers
+pub mod Made
 pub mod MaskLaws
 pub mod FlagsLaws
 pub mod CheaperChecked

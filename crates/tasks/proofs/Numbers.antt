@@ -1,4 +1,4 @@
--- A table's numbers in three lists. Others cite `entry_at`, `entry_from_lem`, an entry; `from_entries`, all of them; `from_lists`, that the lists of entries make these entries; of lists as long
+-- A table's numbers in three lists. Others cite `entry_at`, `entry_from`, an entry; `from_entries`, all of them; `from_lists`, that the lists of entries make these entries; of lists as long
 -- as a table (`Long`) `periods_from`, `budgets_from` and `deadlines_from`, that their entries have these numbers, and `set_from`, an entry replaced.
 use Prim.Native.Nat.{ℕ, zero, suc, ◌+◌, ◌<◌}
 use native.Mathlib.Nat.{add-zero}
@@ -30,9 +30,9 @@ module _ (periods budgets deadlines : List ℕ) where
   from_index (suc n) i zero h = rw (add-zero i)
   from_index (suc n) i (suc j) h = let e : i + 1 + j ≡ i + suc j = omega arith in from_index n (i + 1) j (omega arith) ∙ rw e
 
-  pub entry_from_lem : (i : ℕ) → i < max_tasks → get_or (tasks_from periods budgets deadlines) i zero_task ≡ entry_at periods budgets deadlines i
+  pub entry_from : (i : ℕ) → i < max_tasks → get_or (tasks_from periods budgets deadlines) i zero_task ≡ entry_at periods budgets deadlines i
   unfolding tasks_from
-  entry_from_lem i h = let e : 0 + i ≡ i = omega arith in from_index max_tasks 0 i h ∙ rw e
+  entry_from i h = let e : 0 + i ≡ i = omega arith in from_index max_tasks 0 i h ∙ rw e
 
   length_entries : (n i : ℕ) → length (entries_from periods budgets deadlines i n) ≡ n
   unfolding entries_from
@@ -49,7 +49,7 @@ module _ (periods budgets deadlines : List ℕ) where
       tasks_from periods budgets deadlines ≡ tasks
   from_entries tasks long same =
       ext_get_or zero_task (tasks_from periods budgets deadlines) tasks (length_from ∙ sym long)
-      (λ i inside. let h : i < max_tasks = omega (arith, length_from) in entry_from_lem i h ∙ sym (same i h))
+      (λ i inside. let h : i < max_tasks = omega (arith, length_from) in entry_from i h ∙ sym (same i h))
 
   -- The numbers of one column.
   column :
@@ -62,7 +62,7 @@ module _ (periods budgets deadlines : List ℕ) where
       (λ i inside.
       let h : i < max_tasks = omega (arith, l-long) in
       let at_i : get_or l i 0 ≡ f (get_or (tasks_from periods budgets deadlines) i zero_task) = rw none at (at i) in
-      at_i ∙ ap f (entry_from_lem i h) ∙ same i)
+      at_i ∙ ap f (entry_from i h) ∙ same i)
 
   module _ (long : Long periods budgets deadlines) where
     pub periods_from : periods_of (tasks_from periods budgets deadlines) ≡ periods
@@ -125,4 +125,4 @@ set_from periods budgets deadlines long k task h =
       get_or-set_other budgets k i task.budget 0 ne,
       get_or-set_other deadlines k i task.deadline 0 ne,
     )
-    (entry_from_lem periods budgets deadlines i l))))
+    (entry_from periods budgets deadlines i l))))

@@ -1,50 +1,62 @@
--- What an outcome says where the call was carried out: `is_done_lem`, `past_test`, that no test refused it, and `both_done`, of two tests in turn. Of one that is not
--- number 0, `Not0`: `done_not_0` and `refused_not_0`. Of the numbers that refusals have, `Numbered`: `done_numbered` and `refused_numbered`. `by_outcome` goes
--- by the outcome.
-use Prim.Native.Nat.{ℕ, ◌<◌}
-use native.Mathlib.Omega.{arith}
-use mathlib.Core.Path.{◌≡◌, refl}
-use mathlib.Core.Bool.{Bool, true, false, cond}
+-- What an outcome says where the call was carried out: `done_where_true`, `past_test`, that no test refused it, and `both_done`, of two tests in turn. Of one that is
+-- not number 0, `Not0`: `done_not_0` and `refused_not_0`. Refusal numbers are small: `number_small`. `by_outcome` goes by the outcome.
+use Rattle.std.proofs.Common.{ℕ, ◌≤◌, ◌≡◌, refl, Bool, true, false, cond, Ok, Err, arith}
 use Rattle.laws.proofs.CaseSplits.{not_both, by_cond, clash}
-use Rattle.tasks.specs.declared.outcome.Outcome.{Outcome}
-use Rattle.tasks.specs.declared.outcome.Outcome.TheVariants.{Done, Refused}
-use Rattle.tasks.specs.Outcome.{is_done, first_refusal}
-use Rattle.tasks.specs.Refusals.{unsound_machine}
+use Rattle.tasks.specs.declared.refusals.Reason.{Reason}
+use Rattle.tasks.specs.declared.refusals.Reason.TheVariants.{UnsoundMachine, TextTooLong, BadNamesLine, TooManyTasks, BadValueLine, TaskOutOfRange, NoTask, CoresOutOfRange, NoSuchTask, ReleasedTooSoon, JobStillOpen, JobNotOpen, TableFull, NotAdmitted, SlotCoresOutOfRange, NeedOutOfRange, LeastAboveMost, NoHeldTask, BadLogLine}
+use Rattle.tasks.specs.declared.refusals.Refusal.{Refusal}
+use Rattle.tasks.specs.Outcome.{Outcome, is_done, first_refusal}
+use Rattle.tasks.specs.Refusals.{number_of, refusal}
 
-pub by_outcome : {A : Type 0} (o : Outcome) → (o ≡ Done → A) → ((number place : ℕ) → o ≡ Refused number place → A) → A
-by_outcome Done f g = f refl
-by_outcome (Refused number place) f g = g number place refl
+pub by_outcome : {A : Type 0} (o : Outcome) → (o ≡ Ok tt → A) → ((why : Refusal) → o ≡ Err why → A) → A
+by_outcome (Ok _) f g = f refl
+by_outcome (Err why) f g = g why refl
 
-pub is_done_lem : (o : Outcome) → is_done o ≡ true → o ≡ Done
+pub done_where_true : (o : Outcome) → is_done o ≡ true → o ≡ Ok tt
 unfolding is_done
-is_done_lem Done e = refl
-is_done_lem (Refused number place) e = not_both false e refl
+done_where_true (Ok _) e = refl
+done_where_true (Err why) e = not_both false e refl
 
-pub past_test :
-    {A : Type 0} (test : Bool) (number place : ℕ) {o : Outcome} → (test ≡ false → o ≡ Done → A) → cond test (Refused number place) o ≡ Done → A
-past_test {A} test number place on = by_cond (λ o. o ≡ Done → A) test (λ refused e. clash cc) on
+-- no outcome is both a refusal and none
+pub refused_not_done : {A : Type 0} (why : Refusal) (o : Outcome) → o ≡ Err why → o ≡ Ok tt → A
+refused_not_done why o refused done = clash cc
 
-pub both_done : (a b : Outcome) → first_refusal a b ≡ Done → (a ≡ Done) × (b ≡ Done)
+pub past_test : {A : Type 0} (test : Bool) (why : Refusal) {o : Outcome} → (test ≡ false → o ≡ Ok tt → A) → cond test (Err why) o ≡ Ok tt → A
+past_test {A} test why {o} on = by_cond (λ one. one ≡ Ok tt → A) test (λ refused. refused_not_done why (Err why) refl) on
+
+pub both_done : (a b : Outcome) → first_refusal a b ≡ Ok tt → (a ≡ Ok tt) × (b ≡ Ok tt)
 unfolding first_refusal
-both_done Done b e = (refl, e)
-both_done (Refused number place) b e = clash cc
+both_done (Ok _) b e = (refl, e)
+both_done (Err why) b e = clash cc
 
 -- the outcome is not number 0
 pub record Not0 (o : Outcome) : Type 0 where
-  pub other : (place : ℕ) → o ≡ Refused unsound_machine place → ⊥
+  pub other : (place : ℕ) → o ≡ Err (refusal UnsoundMachine place) → ⊥
 
-pub done_not_0 : Not0 Done
+pub done_not_0 : Not0 (Ok tt)
 done_not_0 = record { other = λ place e. clash cc }
 
-pub refused_not_0 : (number place : ℕ) → 0 < number → Not0 (Refused number place)
-refused_not_0 number place some = record { other = λ at e. let zero : number ≡ 0 = cc in omega arith }
+pub refused_not_0 : (why : Refusal) → 1 ≤ number_of why.reason → Not0 (Err why)
+refused_not_0 why some = record { other = λ at e. let zero : why.reason ≡ UnsoundMachine = cc in let none : number_of why.reason ≡ 0 = rw zero in omega arith }
 
--- if it is a refusal, its number is not 0 and has at most two digits
-pub record Numbered (o : Outcome) : Type 0 where
-  pub number_is : (number place : ℕ) → o ≡ Refused number place → (0 < number) × (number < 100)
-
-pub done_numbered : Numbered Done
-done_numbered = record { number_is = λ number place e. clash cc }
-
-pub refused_numbered : (number place : ℕ) → (0 < number) × (number < 100) → Numbered (Refused number place)
-refused_numbered number place h = record { number_is = λ n p e. let same : number ≡ n = cc in rw (← same) h }
+-- each number has at most two digits
+pub number_small : (reason : Reason) → number_of reason ≤ 18
+number_small UnsoundMachine = omega arith
+number_small TextTooLong = omega arith
+number_small BadNamesLine = omega arith
+number_small TooManyTasks = omega arith
+number_small BadValueLine = omega arith
+number_small TaskOutOfRange = omega arith
+number_small NoTask = omega arith
+number_small CoresOutOfRange = omega arith
+number_small NoSuchTask = omega arith
+number_small ReleasedTooSoon = omega arith
+number_small JobStillOpen = omega arith
+number_small JobNotOpen = omega arith
+number_small TableFull = omega arith
+number_small NotAdmitted = omega arith
+number_small SlotCoresOutOfRange = omega arith
+number_small NeedOutOfRange = omega arith
+number_small LeastAboveMost = omega arith
+number_small NoHeldTask = omega arith
+number_small BadLogLine = omega arith

@@ -6,7 +6,7 @@ use lib.ListN.{get_or}
 use Rattle.edzl.proofs.WellFormed.{TaskFits, WellFormed}
 use Rattle.tasks.specs.declared.task.Task.{Task}
 use Rattle.tasks.specs.declared.table.Table.{Table}
-use Rattle.tasks.specs.declared.outcome.Outcome.TheVariants.{Done}
+use Rattle.std.proofs.Common.{Ok}
 use Rattle.tasks.specs.Task.{in_range}
 use Rattle.tasks.specs.Table.{zero_task}
 use Rattle.tasks.specs.Check.{checked}
@@ -19,6 +19,6 @@ task_fits t h =
     let r = range_of t h in
     record { budget_some = r.budget_some; budget_fits = r.budget_fits; deadline_fits = r.deadline_fits }
 
-pub well_checked : (t : Table) (m : ℕ) → checked t m ≡ Done → WellFormed (tasks_of t)
+pub well_checked : (t : Table) (m : ℕ) → checked t m ≡ Ok tt → WellFormed (tasks_of t)
 unfolding WellFormed tasks_of first_tasks
 well_checked t m e i h = task_fits (get_or t.tasks i zero_task) ((passes t m e).tasks_fit i h)

@@ -18,7 +18,7 @@ use Rattle.tasks.specs.Cheaper.{Cheaper}
 use Rattle.tasks.specs.Trimmed.{with_budget, with_period, list_of, without_task, chosen, chosen_table, AfterTrims, TrimsCheaper}
 use Rattle.tasks.specs.declared.task.Task.{Task}
 use Rattle.tasks.specs.declared.table.Table.{Table}
-use Rattle.tasks.specs.declared.outcome.Outcome.TheVariants.{Done}
+use Rattle.std.proofs.Common.{Ok}
 use Rattle.tasks.proofs.Checked.{Passes, passes}
 use Rattle.tasks.proofs.Range.{Range, range_of}
 use Rattle.tasks.proofs.WrittenLaws.{count_of, entry_of}
@@ -36,7 +36,7 @@ record NoDearer (old new : Task) : Type 0 where
   period_no_smaller : old.period ≤ new.period
   period_fits : new.period ≤ max_period
 
-module _ (t : Table) (m : ℕ) (can-be-judged : checked t m ≡ Done) where
+module _ (t : Table) (m : ℕ) (can-be-judged : checked t m ≡ Ok tt) where
   fits : Passes t m
   fits = passes t m can-be-judged
 
@@ -201,7 +201,7 @@ trims_cheaper t m can-be-judged =
     }
 
 pub after_trims : (holds : Table → ℕ → Type 0) (t : Table) (m : ℕ) →
-    checked t m ≡ Done →
+    checked t m ≡ Ok tt →
     ((t' : Table) (m' : ℕ) → Cheaper t m t' m' → holds t' m') →
     AfterTrims holds t m
 unfolding TrimsCheaper

@@ -1,13 +1,13 @@
 -- Whether a given table can be judged or started: document 01, "Why a call is not carried out".
-use Rattle.std.specs.Prelude.{ℕ, zero, suc, ◌+◌, Bool, cond, not, ◌&&◌, List, eqb, leb, ltb, get_or}
+use Rattle.std.specs.Prelude.{ℕ, zero, suc, ◌+◌, Bool, cond, not, ◌&&◌, List, Ok, Err, eqb, leb, ltb, get_or}
 use Rattle.tasks.specs.Limits.{max_tasks, max_cores}
-use Rattle.tasks.specs.Refusals.{too_many_tasks, no_task, task_out_of_range, cores_out_of_range}
+use Rattle.tasks.specs.Refusals.{refusal}
+use Rattle.tasks.specs.Outcome.{Outcome}
 use Rattle.tasks.specs.Task.{in_range}
 use Rattle.tasks.specs.Table.{zero_task}
 use Rattle.tasks.specs.declared.task.Task.{Task}
 use Rattle.tasks.specs.declared.table.Table.{Table}
-use Rattle.tasks.specs.declared.outcome.Outcome.{Outcome}
-use Rattle.tasks.specs.declared.outcome.Outcome.TheVariants.{Done, Refused}
+use Rattle.tasks.specs.declared.refusals.Reason.TheVariants.{TooManyTasks, NoTask, TaskOutOfRange, CoresOutOfRange}
 
 -- "5 task by task": the number, from 1, of the first task out of range among the n from index i on; 0 where there is none
 unfoldable pub first_out_of_range : List Task → (i n : ℕ) → ℕ
@@ -23,6 +23,6 @@ cores_in_range m = leb 1 m && leb m max_cores
 unfoldable pub checked : Table → ℕ → Outcome
 checked t m =
     let place = first_out_of_range t.tasks 0 t.count in
-    cond (ltb max_tasks t.count) (Refused too_many_tasks (max_tasks + 1))
-    (cond (eqb t.count 0) (Refused no_task 0)
-    (cond (not (eqb place 0)) (Refused task_out_of_range place) (cond (not (cores_in_range m)) (Refused cores_out_of_range 0) Done)))
+    cond (ltb max_tasks t.count) (Err (refusal TooManyTasks (max_tasks + 1)))
+    (cond (eqb t.count 0) (Err (refusal NoTask 0))
+    (cond (not (eqb place 0)) (Err (refusal TaskOutOfRange place)) (cond (not (cores_in_range m)) (Err (refusal CoresOutOfRange 0)) (Ok tt))))

@@ -1,6 +1,6 @@
 -- What document 02's change 8 does to a table, one budget or period changed or a task removed, and some of its tasks alone; and that each makes it cheaper. Tasks are
 -- named by their index, from 0.
-use Rattle.std.specs.Prelude.{ℕ, suc, ◌+◌, ◌≤◌, ◌<◌, ◌≡◌, Bool, true, false, List, [], ◌∷◌, ◌++◌, get_or, set, take, drop}
+use Rattle.std.specs.Prelude.{ℕ, suc, ◌+◌, ◌≤◌, ◌<◌, ◌≡◌, Bool, true, false, List, [], ◌∷◌, ◌++◌, get_or, set, take, drop, Ok}
 use Rattle.tasks.specs.Limits.{max_period, max_cores}
 use Rattle.tasks.specs.Table.{zero_task}
 use Rattle.tasks.specs.TaskSet.{tasks_of}
@@ -9,7 +9,6 @@ use Rattle.tasks.specs.Check.{checked}
 use Rattle.tasks.specs.Cheaper.{Cheaper}
 use Rattle.tasks.specs.declared.task.Task.{Task}
 use Rattle.tasks.specs.declared.table.Table.{Table}
-use Rattle.tasks.specs.declared.outcome.Outcome.TheVariants.{Done}
 
 -- the table with this budget, any number, for task i
 unfoldable pub with_budget : Table → (i budget : ℕ) → Table
@@ -57,4 +56,4 @@ pub record AfterTrims (holds : Table → (m : ℕ) → Type 0) (t : Table) (m : 
 
 -- of a table that can be judged each of them makes a cheaper one
 unfoldable pub TrimsCheaper : Type 0
-TrimsCheaper = (t : Table) (m : ℕ) → checked t m ≡ Done → AfterTrims (Cheaper t m) t m
+TrimsCheaper = (t : Table) (m : ℕ) → checked t m ≡ Ok tt → AfterTrims (Cheaper t m) t m

@@ -12,9 +12,7 @@ pub fn mask(named: Flags) -> u64
     ensures { result ≡ mask named }
 {
     let mut sum: u64 = 0;
-    let mut i: usize = MAX_TASKS;
-    while 0 < i {
-        i -= 1;
+    for i in (0..MAX_TASKS).rev() {
         sum = named[i] as u64 + 2 * sum;
     }
     sum
@@ -26,11 +24,9 @@ pub fn flags_of(sum: u32) -> Flags
 {
     let mut named = [false; MAX_TASKS];
     let mut rest = sum;
-    let mut i: usize = 0;
-    while i < MAX_TASKS {
+    for i in 0..MAX_TASKS {
         named[i] = rest % 2 == 1;
         rest /= 2;
-        i += 1;
     }
     named
 }

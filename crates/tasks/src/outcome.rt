@@ -1,8 +1,5 @@
 // Whether a call was carried out.
+use crate::refusals::Refusal;
 
-// Done, or refused by document 01's number, with the value line or task that it concerns, or 0.
-#[derive(Clone, Copy)]
-pub enum Outcome {
-    Done,
-    Refused { number: u32, place: u32 },
-}
+// Nothing but that it was carried out, or why it was not.
+pub type Outcome = Result<(), Refusal>;

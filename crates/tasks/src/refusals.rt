@@ -1,37 +1,74 @@
-// The numbers of document 01, "Why a call is not carried out", and of document 02's changes; by its change 3 the number 10 "stays empty".
+// Why a call is not carried out: the numbers of document 01, "Why a call is not carried out", and of document 02's changes.
+ghost use Rattle.std.specs.Prelude.{◌≡◌};
+ghost use Rattle.tasks.specs.Refusals.{number_of, refusal};
 
-pub const UNSOUND_MACHINE: u32 = 0;
+// What keeps a call from being carried out. No call answers `JobStillOpen`: by document 02, change 3, its number "stays empty"; it stands for the release as it
+// was before.
+#[derive(Clone, Copy, PartialEq, Eq)]
+pub enum Reason {
+    UnsoundMachine,
+    TextTooLong,
+    BadNamesLine,
+    TooManyTasks,
+    BadValueLine,
+    TaskOutOfRange,
+    NoTask,
+    CoresOutOfRange,
+    NoSuchTask,
+    ReleasedTooSoon,
+    JobStillOpen,
+    JobNotOpen,
+    TableFull,
+    NotAdmitted,
+    SlotCoresOutOfRange,
+    NeedOutOfRange,
+    LeastAboveMost,
+    NoHeldTask,
+    BadLogLine,
+}
 
-pub const TEXT_TOO_LONG: u32 = 1;
+// A reason, and the value line or task that it concerns, or 0.
+#[derive(Clone, Copy, PartialEq, Eq)]
+pub struct Refusal {
+    pub reason: Reason,
+    pub place: u32,
+}
 
-pub const BAD_NAMES_LINE: u32 = 2;
+impl Reason {
+    // The number that the documents give it.
+    pub fn number(self) -> u32
+        ensures { result ≡ number_of self }
+    {
+        match self {
+            Reason::UnsoundMachine => 0,
+            Reason::TextTooLong => 1,
+            Reason::BadNamesLine => 2,
+            Reason::TooManyTasks => 3,
+            Reason::BadValueLine => 4,
+            Reason::TaskOutOfRange => 5,
+            Reason::NoTask => 6,
+            Reason::CoresOutOfRange => 7,
+            Reason::NoSuchTask => 8,
+            Reason::ReleasedTooSoon => 9,
+            Reason::JobStillOpen => 10,
+            Reason::JobNotOpen => 11,
+            Reason::TableFull => 12,
+            Reason::NotAdmitted => 13,
+            Reason::SlotCoresOutOfRange => 14,
+            Reason::NeedOutOfRange => 15,
+            Reason::LeastAboveMost => 16,
+            Reason::NoHeldTask => 17,
+            Reason::BadLogLine => 18,
+        }
+    }
 
-pub const TOO_MANY_TASKS: u32 = 3;
-
-pub const BAD_VALUE_LINE: u32 = 4;
-
-pub const TASK_OUT_OF_RANGE: u32 = 5;
-
-pub const NO_TASK: u32 = 6;
-
-pub const CORES_OUT_OF_RANGE: u32 = 7;
-
-pub const NO_SUCH_TASK: u32 = 8;
-
-pub const RELEASED_TOO_SOON: u32 = 9;
-
-pub const JOB_NOT_OPEN: u32 = 11;
-
-pub const TABLE_FULL: u32 = 12;
-
-pub const NOT_ADMITTED: u32 = 13;
-
-pub const SLOT_CORES_OUT_OF_RANGE: u32 = 14;
-
-pub const NEED_OUT_OF_RANGE: u32 = 15;
-
-pub const LEAST_ABOVE_MOST: u32 = 16;
-
-pub const NO_HELD_TASK: u32 = 17;
-
-pub const BAD_LOG_LINE: u32 = 18;
+    // The refusal for this reason, with the value line or task that it concerns, or 0.
+    pub fn at(self, place: u32) -> Refusal
+        ensures { result ≡ refusal self place }
+    {
+        Refusal {
+            reason: self,
+            place,
+        }
+    }
+}

@@ -5,7 +5,7 @@ ghost use Rattle.tasks.specs.Task.{in_range};
 use crate::limits::MAX_PERIOD;
 
 // A task's three whole numbers, in slots: T, C and D of document 01.
-#[derive(Clone, Copy)]
+#[derive(Clone, Copy, PartialEq, Eq)]
 pub struct Task {
     pub period: u32,
     pub budget: u32,
@@ -14,18 +14,13 @@ pub struct Task {
 
 impl Task {
     // Whether 1 <= C <= D <= T <= 1,000,000: what number 5 refuses otherwise.
+    #[tactic(auto, unfolding(crate::specs::Task::in_range))]
     pub fn in_range(self) -> bool
         ensures { result ≡ in_range self }
     {
-        if self.budget < 1 {
-            return false;
-        }
-        if self.deadline < self.budget {
-            return false;
-        }
-        if self.period < self.deadline {
-            return false;
-        }
-        self.period <= MAX_PERIOD
+        1 <= self.budget
+            && self.budget <= self.deadline
+            && self.deadline <= self.period
+            && self.period <= MAX_PERIOD
     }
 }

@@ -1,10 +1,10 @@
 // Prints what reading standard input gives, with the place of a refusal and every task: for tests.
 #![tactic(auto)]
 
-use tasks::limits::{MAX_TASKS, MAX_TEXT_LENGTH};
+use tasks::limits::MAX_TEXT_LENGTH;
 use tasks::outcome::Outcome;
 use tasks::task::Task;
-use text::output::{put, put_numbers};
+use text::output::Output;
 
 // One byte more than a text may have, so that a longer one is seen to be too long.
 const INPUT_ROOM: usize = MAX_TEXT_LENGTH + 1;
@@ -13,46 +13,36 @@ const INPUT_ROOM: usize = MAX_TEXT_LENGTH + 1;
 const OUTPUT_ROOM: usize = 1_024;
 
 // READ, or the refusal with its place.
-fn put_outcome(output: &mut [u8], outcome: Outcome) -> usize {
+fn put_outcome(output: &mut Output<OUTPUT_ROOM>, outcome: Outcome) {
     match outcome {
-        Outcome::Done => put(output, 0, b"READ\n"),
-        Outcome::Refused { number, place } => {
-            let at = put(output, 0, b"REFUSED ");
-            let numbers = [number as u64, place as u64];
-            put_numbers(output, at, &numbers)
+        Ok(()) => output.put(b"READ\n"),
+        Err(refusal) => {
+            output.put(b"REFUSED ");
+            output.put_numbers(&[refusal.reason.number() as u64, refusal.place as u64]);
         }
     }
 }
 
 // All entries, so that those past the count are seen too.
-fn put_tasks(output: &mut [u8], used: usize, tasks: [Task; MAX_TASKS]) -> usize {
-    let mut at = used;
-    let mut i: usize = 0;
-    while i < MAX_TASKS {
-        let task = tasks[i];
-        let numbers = [task.period as u64, task.budget as u64, task.deadline as u64];
-        at = put_numbers(output, at, &numbers);
-        i += 1;
+fn put_tasks(output: &mut Output<OUTPUT_ROOM>, tasks: &[Task]) {
+    for task in tasks {
+        output.put_numbers(&[task.period as u64, task.budget as u64, task.deadline as u64]);
     }
-    at
 }
 
 // What reading a text gives: the outcome, the number of tasks, and the tasks.
-fn put_reading(output: &mut [u8], text: &[u8]) -> usize {
+fn put_reading(output: &mut Output<OUTPUT_ROOM>, text: &[u8]) {
     let answer = reader::read(text);
-    let outcome = answer.outcome;
     let table = answer.table;
-    let used = put_outcome(output, outcome);
-    let count = [table.count as u64];
-    let at = put_numbers(output, used, &count);
-    let tasks = table.tasks;
-    put_tasks(output, at, tasks)
+    put_outcome(output, answer.outcome);
+    output.put_numbers(&[table.count as u64]);
+    put_tasks(output, &table.tasks);
 }
 
 fn main(rt: HostRuntime) {
     let mut input = [0u8; INPUT_ROOM];
-    let mut output = [0u8; OUTPUT_ROOM];
+    let mut output = Output::new();
     let n = stdio::read_input(&rt, &mut input);
-    let used = put_reading(&mut output, &input[..n]);
-    stdio::write_output(&rt, &output, used);
+    put_reading(&mut output, &input[..n]);
+    stdio::write_output(&rt, output.text());
 }

@@ -1,5 +1,5 @@
--- An array that is filled from a line of numbers, one field at a time. Others cite `SoFar`, the state between two fields, with `so_far_none` and
--- `so_far_more`, what the answer says of the line where the reading stops: `no_number`, `last_field` and `fields_left`, and `entry_is`, each entry of
+-- An array that is filled from a line of numbers, one field at a time. Others cite `SoFar`, the state between two fields, with `so_far_more`,
+-- what the answer says of the line where the reading stops: `no_number`, `last_field` and `fields_left`, and `entry_is`, each entry of
 -- the array after a line of as many numbers.
 use Prim.Native.Nat.{ℕ, zero, suc, ◌+◌, ◌-◌, ◌≤◌, ◌<◌}
 use native.Mathlib.Numerals.{add-one}
@@ -17,7 +17,8 @@ use Rattle.laws.proofs.Parts.{past, from_length}
 use Rattle.text.specs.Lines.{space, has, before, after, field}
 use Rattle.text.specs.Number.{decimal, well_formed, is_number, number_up_to}
 use Rattle.text.specs.Fields.{are_numbers, numbers_into, FilledFromLine}
-use Rattle.text.specs.declared.number.Before.TheVariants.{Read, Broken}
+use Rattle.std.specs.Prelude.{Some, None}
+use Rattle.text.specs.declared.number.LeadingNumber.{LeadingNumber}
 use Rattle.text.proofs.Split.{gone_rest, hasnt_of, cut}
 use Rattle.text.proofs.NumberLaws.{up_to, not_up_to}
 use Rattle.text.proofs.NumbersOn.{no_numbers, first_none, first_only, first_then}
@@ -29,10 +30,6 @@ module _ (k largest : ℕ) where
     pub size : length array ≡ length array₀
     pub left : are_numbers k largest (length array₀) line ≡ are_numbers k largest (length array₀ - i) rest
     pub done : numbers_into k largest line array₀ ≡ take i array ++ numbers_into k largest rest (drop i array)
-
-  pub so_far_none : (line array : List ℕ) → SoFar line array array line 0
-  so_far_none line array =
-      let z : length array - 0 ≡ length array = omega arith in record { few = omega arith; size = refl; left = rw z; done = refl }
 
   -- a line of one number or more begins with one
   first_is_lem : (m : ℕ) (s : List ℕ) → are_numbers k largest (suc m) s ≡ true → is_number k largest (before space s) ≡ true
@@ -77,7 +74,7 @@ module _ (k largest : ℕ) where
       another : length array₀ - i ≡ suc (length array₀ - (i + 1))
       another = omega (arith, p.size)
 
-      pub no_number : number_up_to k largest space rest ≡ Broken → FilledFromLine k largest line array₀ array false
+      pub no_number : number_up_to k largest space rest ≡ None → FilledFromLine k largest line array₀ array false
       unfolding numbers_into field
       no_number e =
           let f = not_up_to k largest space rest e in
@@ -86,34 +83,34 @@ module _ (k largest : ℕ) where
             filled = sym (p.done ∙ rw (drop-cons array i 0 h, f, ← drop-cons array i 0 h) (take-append-drop i array));
           }
 
-      -- which is a number of b bytes
-      module _ (n b : ℕ) (e : number_up_to k largest space rest ≡ Read n b) where
-        one_more : numbers_into k largest line array₀ ≡ take i array ++ n ∷ numbers_into k largest (after space rest) (drop (suc i) array)
+      -- which is a number m
+      module _ (m : LeadingNumber) (e : number_up_to k largest space rest ≡ Some m) where
+        one_more : numbers_into k largest line array₀ ≡ take i array ++ m.number ∷ numbers_into k largest (after space rest) (drop (suc i) array)
         unfolding numbers_into field
-        one_more = let w = (up_to k largest space rest n b e).0 in p.done ∙ rw (drop-cons array i 0 h, w.is, w.value)
+        one_more = let w = (up_to k largest space rest m e).0 in p.done ∙ rw (drop-cons array i 0 h, w.is, w.value)
 
-        pub last_field : length rest ≤ b → FilledFromLine k largest line array₀ (set array i n) (eqb (i + 1) (length (set array i n)))
+        pub last_field : length rest ≤ m.length → FilledFromLine k largest line array₀ (set array i m.number) (eqb (i + 1) (length (set array i m.number)))
         last_field l =
-            let (w, c) = up_to k largest space rest n b e in
-            let m = length array₀ - (i + 1) in
+            let (w, c) = up_to k largest space rest m e in
+            let others = length array₀ - (i + 1) in
             let only = hasnt_of space rest (omega (arith, c)) in
-            let is : are_numbers k largest (length array₀) line ≡ eqb (suc m) 1 = p.left ∙ rw another (first_only k largest m rest only w.is) in
+            let is : are_numbers k largest (length array₀) line ≡ eqb (suc others) 1 = p.left ∙ rw another (first_only k largest others rest only w.is) in
             record {
-              is = rw (length-set array i n) (sym (is ∙ same_eqb (suc m) 1 (i + 1) (length array) (λ q. omega (arith, p.size)) (λ q. omega (arith, p.size))));
-              filled = set_split array i n h ∙ sym (one_more ∙ rw (gone_rest space rest only, into_none (drop (suc i) array)));
+              is = rw (length-set array i m.number) (sym (is ∙ same_eqb (suc others) 1 (i + 1) (length array) (λ q. omega (arith, p.size)) (λ q. omega (arith, p.size))));
+              filled = set_split array i m.number h ∙ sym (one_more ∙ rw (gone_rest space rest only, into_none (drop (suc i) array)));
             }
 
-        pub so_far_more : b < length rest → SoFar line array₀ (set array i n) (past rest b) (i + 1)
+        pub so_far_more : m.length < length rest → SoFar line array₀ (set array i m.number) (past rest m.length) (i + 1)
         so_far_more l =
-            let (w, c) = up_to k largest space rest n b e in
-            let d = cut space rest b c l in
+            let (w, c) = up_to k largest space rest m e in
+            let d = cut space rest m.length c l in
             record {
-              few = omega (arith, p.few, from_length rest (b + 1));
-              size = length-set array i n ∙ p.size;
+              few = omega (arith, p.few, from_length rest (m.length + 1));
+              size = length-set array i m.number ∙ p.size;
               left = rw d.rest (p.left ∙ rw another (first_then k largest (length array₀ - (i + 1)) rest d.is w.is));
               done =
                   one_more
                   ∙ sym
-                  (rw (add-one i, d.rest, take-suc-set array i n h, drop-set-lt (suc i) array i n (omega arith))
-                  (append_assoc (take i array) (n ∷ []) (numbers_into k largest (after space rest) (drop (suc i) array))));
+                  (rw (add-one i, d.rest, take-suc-set array i m.number h, drop-set-lt (suc i) array i m.number (omega arith))
+                  (append_assoc (take i array) (m.number ∷ []) (numbers_into k largest (after space rest) (drop (suc i) array))));
             }

@@ -13,7 +13,7 @@ use Rattle.text.specs.Lines.{space, has, before, after, field_count, field}
 use Rattle.text.specs.Words.{begins_with}
 use Rattle.text.specs.Number.{is_number, number_of, number_after}
 use Rattle.text.specs.Fields.{each_number, are_numbers}
-use Rattle.text.specs.declared.number.Number.TheVariants.{Read}
+use Rattle.std.specs.Prelude.{Some}
 use Rattle.text.proofs.Split.{here, gone}
 use Rattle.text.proofs.NumberLaws.{number_short}
 use Rattle.text.proofs.FieldLaws.{count_one, count_more, count_positive}
@@ -40,13 +40,13 @@ module _ (k largest : ℕ) where
       let count = eqb-true (field_count l) n (and_left (eqb (field_count l) n) (each_number k largest n l) t) in
       each_short n l count (and_right (eqb (field_count l) n) (each_number k largest n l) t)
 
-  pub after_short : (w l : List ℕ) (n : ℕ) → number_after k largest w l ≡ Read n → length l ≤ length w + k
+  pub after_short : (w l : List ℕ) (n : ℕ) → number_after k largest w l ≡ Some n → length l ≤ length w + k
   unfolding number_after number_of
   after_short w l n =
       let f = drop (length w) l in
-      by_cond (λ r. r ≡ Read n → length l ≤ length w + k) (begins_with w l)
+      by_cond (λ r. r ≡ Some n → length l ≤ length w + k) (begins_with w l)
       (λ b.
-      by_cond (λ r. r ≡ Read n → length l ≤ length w + k) (is_number k largest f)
+      by_cond (λ r. r ≡ Some n → length l ≤ length w + k) (is_number k largest f)
       (λ t e. omega (arith, number_short k largest f t, length-drop (length w) l))
       (λ t e. clash cc))
       (λ b e. clash cc)

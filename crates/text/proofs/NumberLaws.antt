@@ -14,8 +14,8 @@ use Rattle.laws.proofs.CaseSplits.{by_test, by_cond, clash}
 use Rattle.laws.proofs.Booleans.{and_left, and_right}
 use Rattle.text.specs.Lines.{space, has, before}
 use Rattle.text.specs.Number.{is_digit, all_digits, leading_zero, well_formed, decimal_from, decimal, is_number, number_of, number_up_to}
-use Rattle.text.specs.declared.number.Number.TheVariants as Number
-use Rattle.text.specs.declared.number.Before.TheVariants.{Read, Broken}
+use Rattle.std.specs.Prelude.{Some, None}
+use Rattle.text.specs.declared.number.LeadingNumber.{LeadingNumber}
 use Rattle.text.proofs.Split.{gone, has_of, hasnt_of}
 
 -- a field that is the number n
@@ -25,17 +25,17 @@ pub record Numbered (k largest : ℕ) (f : List ℕ) (n : ℕ) : Type 0 where
 
 -- what `number_up_to` says of the field before the byte b
 module _ (k largest b : ℕ) (s : List ℕ) where
-  pub up_to : (n i : ℕ) → number_up_to k largest b s ≡ Read n i → Numbered k largest (before b s) n × (i ≡ length (before b s))
+  pub up_to : (l : LeadingNumber) → number_up_to k largest b s ≡ Some l → Numbered k largest (before b s) l.number × (l.length ≡ length (before b s))
   unfolding number_up_to
-  up_to n i =
-      by_cond (λ r. r ≡ Read n i → Numbered k largest (before b s) n × (i ≡ length (before b s))) (is_number k largest (before b s))
+  up_to l =
+      by_cond (λ r. r ≡ Some l → Numbered k largest (before b s) l.number × (l.length ≡ length (before b s))) (is_number k largest (before b s))
       (λ t e. (record { is = t; value = cc }, cc))
       (λ t e. clash cc)
 
-  pub not_up_to : number_up_to k largest b s ≡ Broken → is_number k largest (before b s) ≡ false
+  pub not_up_to : number_up_to k largest b s ≡ None → is_number k largest (before b s) ≡ false
   unfolding number_up_to
   not_up_to =
-      by_cond (λ r. r ≡ Broken → is_number k largest (before b s) ≡ false) (is_number k largest (before b s)) (λ t e. clash cc) (λ t e. t)
+      by_cond (λ r. r ≡ None → is_number k largest (before b s) ≡ false) (is_number k largest (before b s)) (λ t e. clash cc) (λ t e. t)
 
 -- a digit
 pub record Digit (b : ℕ) : Type 0 where
@@ -107,20 +107,20 @@ no_other k largest b n f h =
 
 -- a field read up to a space that is not in it
 module _ (k largest : ℕ) (f : List ℕ) where
-  spaced : has space f ≡ true → Number.Broken ≡ number_of k largest f
+  spaced : has space f ≡ true → None ≡ number_of k largest f
   unfolding number_of is_digit
   spaced h = rw (no_other k largest space refl f h)
 
-  pub broken_field : number_up_to k largest space f ≡ Broken → Number.Broken ≡ number_of k largest f
+  pub broken_field : number_up_to k largest space f ≡ None → None ≡ number_of k largest f
   unfolding number_of
   broken_field e = by_test (has space f) spaced (λ h. rw (rw (gone space f h) at (not_up_to k largest space f e)))
 
-  pub longer_field : (n i : ℕ) → number_up_to k largest space f ≡ Read n i → i < length f → Number.Broken ≡ number_of k largest f
-  longer_field n i e h = let l = (up_to k largest space f n i e).1 in spaced (has_of space f (omega (arith, l)))
+  pub longer_field : (l : LeadingNumber) → number_up_to k largest space f ≡ Some l → l.length < length f → None ≡ number_of k largest f
+  longer_field n e h = let l = (up_to k largest space f n e).1 in spaced (has_of space f (omega (arith, l)))
 
-  pub whole_field : (n i : ℕ) → number_up_to k largest space f ≡ Read n i → length f ≤ i → Number.Read n ≡ number_of k largest f
+  pub whole_field : (l : LeadingNumber) → number_up_to k largest space f ≡ Some l → length f ≤ l.length → Some l.number ≡ number_of k largest f
   unfolding number_of
-  whole_field n i e h =
-      let (w, l) = up_to k largest space f n i e in
+  whole_field n e h =
+      let (w, l) = up_to k largest space f n e in
       let g = gone space f (hasnt_of space f (omega (arith, l))) in
       rw (rw g at w.is, rw g at w.value)

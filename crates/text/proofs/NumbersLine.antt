@@ -1,19 +1,13 @@
--- A line of numbers, one number at a time, for the loop that puts it: `first_number`, `next_number`, `no_number`.
+-- A line of numbers, one number at a time, for the loop that puts those after the first: `next_number`, `no_number`.
 use Prim.Native.Nat.{ℕ, ◌+◌, ◌≤◌, ◌<◌}
 use native.Mathlib.Numerals.{add-one}
-use native.Mathlib.Omega.{arith}
-use mathlib.Core.Path.{◌≡◌, refl}
+use mathlib.Core.Path.{◌≡◌}
 use mathlib.Core.List.{List, [], ◌∷◌, ◌++◌}
 use lib.ListN.{length, get_or, drop, drop_of_length-le}
 use lib.Seq.{drop-cons}
 use Rattle.text.specs.Lines.{line_end, space}
 use Rattle.text.specs.Number.{decimal_text}
-use Rattle.text.specs.Output.{further_numbers, numbers_line}
-
-pub first_number : (ns : List ℕ) → 0 < length ns → numbers_line ns ≡ decimal_text (get_or ns 0 0) ++ further_numbers (drop 1 ns)
-unfolding numbers_line
-first_number [] h = absurd (omega arith)
-first_number (n ∷ ns) h = refl
+use Rattle.text.specs.Output.{further_numbers}
 
 module _ (ns : List ℕ) (i : ℕ) where
   pub next_number :

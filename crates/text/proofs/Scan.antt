@@ -1,19 +1,23 @@
 -- The search for the first byte b of a text. Others cite `Passed` with its laws: the first i bytes are no b (`passed_none`, `passed_more`,
 -- `passed_next`), and what is known at the next byte (`at_other`, `met`), at the end of the text (`missed_count`), at either (`stopped`), and of what is left
--- (`passed_rest`).
+-- (`passed_rest`); and `before_position`, how many bytes stand before b.
 use Prim.Native.Nat.{ℕ, suc, ◌+◌, ◌≤◌, ◌<◌}
 use native.Mathlib.Numerals.{add-one}
 use native.Mathlib.Omega.{arith}
 use mathlib.Core.Path.{◌≡◌, refl, sym, ap, ◌∙◌}
 use mathlib.Core.Bool.{true, false}
 use mathlib.Core.Logic.{◌⊎◌, ⊎_elim}
-use mathlib.Core.List.{List, ◌∷◌, ◌++◌, append-nil}
+use mathlib.Core.List.{List, [], ◌∷◌, ◌++◌, append-nil}
 use lib.ListN.{length, get_or, take, drop, length-append, drop_of_length-le}
 use lib.Seq.{drop-cons, take-suc, length-take-le, take_all, get_or_at, append_snoc}
-use borrow.Author.Tests.{eq-eqb, ne_eqb}
+use borrow.Author.Tests.{eq-eqb, ne_eqb, ltb-false}
+use lib.Dec.{eqb, ltb}
+use Rattle.std.specs.Prelude.{◌==◌, unwrap_or}
+use Rattle.std.specs.List.{position, position_or_len}
+use Rattle.laws.proofs.CaseSplits.{by_test}
 use Rattle.laws.proofs.Parts.{from, from_drop}
 use Rattle.text.specs.Lines.{has, before}
-use Rattle.text.proofs.Split.{gone}
+use Rattle.text.proofs.Split.{gone, before_fits}
 
 -- the first i bytes of s are no b
 pub record Passed (b : ℕ) (s : List ℕ) (i : ℕ) : Type 0 where
@@ -97,3 +101,15 @@ stopped b s i p =
     ⊎_elim
     (λ h. (gone b s (missed b s i p h) ∙ sym (take_all i s h), missed_count b s i p h))
     (λ h. let m = met b s i p h.0 h.1 in (m.front, m.count))
+
+-- how many bytes stand before b, as the library's `position` tells it
+length_before : (b : ℕ) (s : List ℕ) → position_or_len (λ x. x == b) s ≡ length (before b s)
+unfolding before
+length_before b [] = refl
+length_before b (x ∷ s) = by_test (eqb x b) (λ e. rw e) (λ e. rw (e, length_before b s) (omega arith))
+
+pub before_position : (b : ℕ) (s : List ℕ) → unwrap_or (position (λ x. x == b) s) (length s) ≡ length (before b s)
+before_position b s =
+    let n = length (before b s) in
+    rw (length_before b s)
+    (by_test (ltb n (length s)) (λ e. rw e) (λ e. rw e (omega (arith, ltb-false n (length s) e, before_fits b s))))

@@ -9,10 +9,11 @@ use lib.ListN.{length}
 use Rattle.laws.proofs.CaseSplits.{by_cond, clash}
 use Rattle.laws.proofs.Parts.{past}
 use Rattle.text.specs.Lines.{line_end, space, has, before, after, field}
-use Rattle.text.specs.Number.{decimal, is_number, number_up_to}
-use Rattle.text.specs.Fields.{are_numbers, three_numbers}
-use Rattle.text.specs.declared.number.Before.TheVariants as Before
-use Rattle.text.specs.declared.fields.Numbers.TheVariants.{Three, Broken}
+use Rattle.text.specs.Number.{is_number, number_up_to}
+use Rattle.text.specs.Fields.{are_numbers, three_of, three_numbers}
+use Rattle.std.specs.Prelude.{Some, None}
+use Rattle.text.specs.declared.number.LeadingNumber.{LeadingNumber}
+use Rattle.text.specs.declared.fields.ThreeNumbers.{ThreeNumbers}
 use Rattle.text.proofs.Split.{gone, hasnt_of, cut}
 use Rattle.text.proofs.NumberLaws.{up_to, not_up_to}
 use Rattle.text.proofs.NumbersOn.{numbers_on, unspaced, are_numbers_lem, on_line, first_on}
@@ -27,96 +28,93 @@ module _ (k largest : ℕ) (s : List ℕ) where
   unfolding numbers_on
   tests = are_numbers_lem k largest 2 (before line_end s) ∙ on_line k largest 1 s ∙ rw (on_line k largest 0 (after space s))
 
-  broken : are_numbers k largest 3 (before line_end s) ≡ false → Broken ≡ three_numbers k largest s
+  broken : are_numbers k largest 3 (before line_end s) ≡ false → None ≡ three_numbers k largest s
   unfolding three_numbers
   broken e = rw e
 
-  pub no_first : number_up_to k largest space s ≡ Before.Broken → Broken ≡ three_numbers k largest s
+  pub no_first : number_up_to k largest space s ≡ None → None ≡ three_numbers k largest s
   no_first e = broken (tests ∙ rw (not_up_to k largest space s e, and-false (has space s)))
 
   -- the first number has a bytes
-  module _ (x a : ℕ) (e : number_up_to k largest space s ≡ Before.Read x a) where
-    pub one_field : length s ≤ a → Broken ≡ three_numbers k largest s
+  module _ (a : LeadingNumber) (e : number_up_to k largest space s ≡ Some a) where
+    pub one_field : length s ≤ a.length → None ≡ three_numbers k largest s
     one_field h =
-        let l = (up_to k largest space s x a e).1 in
+        let l = (up_to k largest space s a e).1 in
         broken (tests ∙ rw (hasnt_of space s (omega (arith, l))))
 
     -- a space follows it, and then the rest r of the text
-    module _ (h : a < length s) where
-      rest : past s a ≡ after space s
-      rest = (cut space s a (up_to k largest space s x a e).1 h).rest
+    module _ (h : a.length < length s) where
+      rest : past s a.length ≡ after space s
+      rest = (cut space s a.length (up_to k largest space s a e).1 h).rest
 
       is : has space s ≡ true
-      is = (cut space s a (up_to k largest space s x a e).1 h).is
+      is = (cut space s a.length (up_to k largest space s a e).1 h).is
 
       more :
           are_numbers k largest 3 (before line_end s)
-          ≡ (has space (past s a) && is_number k largest (before space (past s a)) && is_number k largest (before line_end (after space (past s a))))
-      more = tests ∙ rw (is, (up_to k largest space s x a e).0.is, rest)
+          ≡ (has space (past s a.length) && is_number k largest (before space (past s a.length)) && is_number k largest (before line_end (after space (past s a.length))))
+      more = tests ∙ rw (is, (up_to k largest space s a e).0.is, rest)
 
-      pub no_second : number_up_to k largest space (past s a) ≡ Before.Broken → Broken ≡ three_numbers k largest s
-      no_second b = broken (more ∙ rw (not_up_to k largest space (past s a) b, and-false (has space (past s a))))
+      pub no_second : number_up_to k largest space (past s a.length) ≡ None → None ≡ three_numbers k largest s
+      no_second b = broken (more ∙ rw (not_up_to k largest space (past s a.length) b, and-false (has space (past s a.length))))
 
       -- the second number has b bytes
-      module _ (y b : ℕ) (f : number_up_to k largest space (past s a) ≡ Before.Read y b) where
-        pub two_fields : length (past s a) ≤ b → Broken ≡ three_numbers k largest s
+      module _ (b : LeadingNumber) (f : number_up_to k largest space (past s a.length) ≡ Some b) where
+        pub two_fields : length (past s a.length) ≤ b.length → None ≡ three_numbers k largest s
         two_fields h₁ =
-            let l = (up_to k largest space (past s a) y b f).1 in
-            broken (more ∙ rw (hasnt_of space (past s a) (omega (arith, l))))
+            let l = (up_to k largest space (past s a.length) b f).1 in
+            broken (more ∙ rw (hasnt_of space (past s a.length) (omega (arith, l))))
 
         -- a space follows it, and then the last part of the text
-        module _ (h₁ : b < length (past s a)) where
-          rest₁ : past (past s a) b ≡ after space (past s a)
-          rest₁ = (cut space (past s a) b (up_to k largest space (past s a) y b f).1 h₁).rest
+        module _ (h₁ : b.length < length (past s a.length)) where
+          rest₁ : past (past s a.length) b.length ≡ after space (past s a.length)
+          rest₁ = (cut space (past s a.length) b.length (up_to k largest space (past s a.length) b f).1 h₁).rest
 
-          is₁ : has space (past s a) ≡ true
-          is₁ = (cut space (past s a) b (up_to k largest space (past s a) y b f).1 h₁).is
+          is₁ : has space (past s a.length) ≡ true
+          is₁ = (cut space (past s a.length) b.length (up_to k largest space (past s a.length) b f).1 h₁).is
 
-          last : are_numbers k largest 3 (before line_end s) ≡ is_number k largest (before line_end (past (past s a) b))
-          last = more ∙ rw (is₁, (up_to k largest space (past s a) y b f).0.is, rest₁)
+          last : are_numbers k largest 3 (before line_end s) ≡ is_number k largest (before line_end (past (past s a.length) b.length))
+          last = more ∙ rw (is₁, (up_to k largest space (past s a.length) b f).0.is, rest₁)
 
-          pub no_third : number_up_to k largest line_end (past (past s a) b) ≡ Before.Broken → Broken ≡ three_numbers k largest s
-          no_third c = broken (last ∙ not_up_to k largest line_end (past (past s a) b) c)
+          pub no_third : number_up_to k largest line_end (past (past s a.length) b.length) ≡ None → None ≡ three_numbers k largest s
+          no_third c = broken (last ∙ not_up_to k largest line_end (past (past s a.length) b.length) c)
 
           -- the third number has d bytes
-          module _ (z d : ℕ) (g : number_up_to k largest line_end (past (past s a) b) ≡ Before.Read z d) where
-            pub all_three : Three x y z (a + 1 + b + 1 + d) ≡ three_numbers k largest s
-            unfolding three_numbers field
+          module _ (d : LeadingNumber) (g : number_up_to k largest line_end (past (past s a.length) b.length) ≡ Some d) where
+            pub all_three : Some (record { first = a.number; second = b.number; third = d.number; length = a.length + 1 + b.length + 1 + d.length }) ≡ three_numbers k largest s
+            unfolding three_numbers three_of field
             all_three =
-                let (w₁, l₁) = up_to k largest space s x a e in
-                let (w₂, l₂) = up_to k largest space (past s a) y b f in
-                let (w₃, l₃) = up_to k largest line_end (past (past s a) b) z d g in
+                let (w₁, l₁) = up_to k largest space s a e in
+                let (w₂, l₂) = up_to k largest space (past s a.length) b f in
+                let (w₃, l₃) = up_to k largest line_end (past (past s a.length) b.length) d g in
                 let o = first_on k largest 1 s (sym (are_numbers_lem k largest 2 (before line_end s)) ∙ last ∙ w₃.is) in
-                let q = first_on k largest 0 (past s a) (rw (← rest) at o.next) in
-                let u : before line_end (past (past s a) b) ≡ after space (after space (before line_end s)) =
+                let q = first_on k largest 0 (past s a.length) (rw (← rest) at o.next) in
+                let u : before line_end (past (past s a.length) b.length) ≡ after space (after space (before line_end s)) =
                 rw (o.rest, ← rest, q.rest, rest₁)
                 in
-                let v : before space (after space (before line_end s)) ≡ before space (past s a) = rw (o.rest, ← rest) q.first in
-                let none = gone space (before line_end (past (past s a) b)) (unspaced k largest (before line_end (past (past s a) b)) w₃.is) in
-                let c : length (before line_end s) ≡ a + 1 + b + 1 + d =
+                let v : before space (after space (before line_end s)) ≡ before space (past s a.length) = rw (o.rest, ← rest) q.first in
+                let none = gone space (before line_end (past (past s a.length) b.length)) (unspaced k largest (before line_end (past (past s a.length) b.length)) w₃.is) in
+                let c : length (before line_end s) ≡ a.length + 1 + b.length + 1 + d.length =
                 omega (arith, o.count, q.count, ap (λ (t : List ℕ). length (before line_end t)) rest, ap (λ (t : List ℕ). length (before line_end t)) rest₁, l₁, l₂, l₃)
                 in
                 rw (last, w₃.is, o.first, w₁.value, v, w₂.value, ← u, none, w₃.value, c)
 
 -- a text whose first line is three numbers, and one whose is not
 module _ (k largest : ℕ) (s : List ℕ) where
-  pub record AreThree (x y z n : ℕ) : Type 0 where
+  pub record AreThree (t : ThreeNumbers) : Type 0 where
     pub are : are_numbers k largest 3 (before line_end s) ≡ true
-    pub first : decimal (field 0 (before line_end s)) ≡ x
-    pub second : decimal (field 1 (before line_end s)) ≡ y
-    pub third : decimal (field 2 (before line_end s)) ≡ z
-    pub count : n ≡ length (before line_end s)
+    pub is : t ≡ three_of (before line_end s)
 
-  pub three_are : (x y z n : ℕ) → three_numbers k largest s ≡ Three x y z n → AreThree x y z n
+  pub three_are : (t : ThreeNumbers) → three_numbers k largest s ≡ Some t → AreThree t
   unfolding three_numbers
-  three_are x y z n =
-      by_cond (λ r. r ≡ Three x y z n → AreThree x y z n) (are_numbers k largest 3 (before line_end s))
-      (λ t e. record { are = t; first = cc; second = cc; third = cc; count = cc })
-      (λ t e. clash cc)
+  three_are t =
+      by_cond (λ r. r ≡ Some t → AreThree t) (are_numbers k largest 3 (before line_end s))
+      (λ are e. record { are = are; is = cc })
+      (λ are e. clash cc)
 
-  pub three_are_not : three_numbers k largest s ≡ Broken → are_numbers k largest 3 (before line_end s) ≡ false
+  pub three_are_not : three_numbers k largest s ≡ None → are_numbers k largest 3 (before line_end s) ≡ false
   unfolding three_numbers
   three_are_not =
-      by_cond (λ r. r ≡ Broken → are_numbers k largest 3 (before line_end s) ≡ false) (are_numbers k largest 3 (before line_end s))
+      by_cond (λ r. r ≡ None → are_numbers k largest 3 (before line_end s) ≡ false) (are_numbers k largest 3 (before line_end s))
       (λ t e. clash cc)
       (λ t e. t)

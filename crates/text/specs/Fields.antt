@@ -1,9 +1,8 @@
 -- Lines of fields: document 01, "The table as text"; for any number of them docs/HANDBOOK.md, "Probing one call".
-use Rattle.std.specs.Prelude.{ℕ, zero, suc, ◌≡◌, List, [], ◌∷◌, Bool, true, cond, ◌&&◌, eqb, length}
+use Rattle.std.specs.Prelude.{ℕ, zero, suc, ◌≡◌, List, [], ◌∷◌, Bool, true, cond, ◌&&◌, eqb, length, Option, Some, None}
 use Rattle.text.specs.Lines.{line_end, space, before, after, field_count, field}
 use Rattle.text.specs.Number.{is_number, decimal}
-use Rattle.text.specs.declared.fields.Numbers.{Numbers}
-use Rattle.text.specs.declared.fields.Numbers.TheVariants as Numbers
+use Rattle.text.specs.declared.fields.ThreeNumbers.{ThreeNumbers}
 
 -- whether each of the first n fields of a line is a number, of at most so many digits and at most `largest`
 unfoldable pub each_number : (digits largest n : ℕ) → List ℕ → Bool
@@ -14,12 +13,15 @@ each_number digits largest (suc n) l = is_number digits largest (field 0 l) && e
 unfoldable pub are_numbers : (digits largest n : ℕ) → List ℕ → Bool
 are_numbers digits largest n l = eqb (field_count l) n && each_number digits largest n l
 
--- the three numbers that the first line of a text is, and how many bytes the line has: without its byte 10, or all of the text where there is none;
--- a line that is not three numbers is Broken
-unfoldable pub three_numbers : (digits largest : ℕ) → List ℕ → Numbers
+-- the numbers of a line of three, and how many bytes it has
+unfoldable pub three_of : List ℕ → ThreeNumbers
+three_of l = record { first = decimal (field 0 l); second = decimal (field 1 l); third = decimal (field 2 l); length = length l }
+
+-- the three numbers that the first line of a text is, if it is three: without its byte 10, or all of the text where there is none
+unfoldable pub three_numbers : (digits largest : ℕ) → List ℕ → Option ThreeNumbers
 three_numbers digits largest s =
     let l = before line_end s in
-    cond (are_numbers digits largest 3 l) (Numbers.Three (decimal (field 0 l)) (decimal (field 1 l)) (decimal (field 2 l)) (length l)) Numbers.Broken
+    cond (are_numbers digits largest 3 l) (Some (three_of l)) None
 
 -- an array whose first entries become the numbers that a line begins with, up to the first field that is none; the others stay
 unfoldable pub numbers_into : (digits largest : ℕ) → (line array : List ℕ) → List ℕ

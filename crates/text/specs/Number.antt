@@ -1,11 +1,8 @@
 -- Numbers in base ten: the number that a text is (document 01, "The table as text"), and the text of a number.
-use Rattle.std.specs.Prelude.{ℕ, zero, suc, ◌+◌, ◌-◌, ◌*◌, ◌/◌, ◌%◌, List, [], ◌∷◌, ◌++◌, Bool, true, cond, not, ◌&&◌, eqb, leb, ltb, length, get_or, drop}
+use Rattle.std.specs.Prelude.{ℕ, zero, suc, ◌+◌, ◌-◌, ◌*◌, ◌/◌, ◌%◌, List, [], ◌∷◌, ◌++◌, Bool, true, cond, not, ◌&&◌, eqb, leb, ltb, length, get_or, drop, Option, Some, None}
 use Rattle.text.specs.Words.{begins_with}
 use Rattle.text.specs.Lines.{before}
-use Rattle.text.specs.declared.number.Number.{Number}
-use Rattle.text.specs.declared.number.Number.TheVariants.{Read, Broken}
-use Rattle.text.specs.declared.number.Before.{Before}
-use Rattle.text.specs.declared.number.Before.TheVariants as Before
+use Rattle.text.specs.declared.number.LeadingNumber.{LeadingNumber}
 
 -- whether a byte is one of the ten digits, 48 for 0 to 57 for 9
 unfoldable pub is_digit : ℕ → Bool
@@ -37,18 +34,19 @@ decimal f = decimal_from 0 f
 unfoldable pub is_number : (digits largest : ℕ) → List ℕ → Bool
 is_number digits largest f = well_formed digits f && leb (decimal f) largest
 
--- the number that a field is, or Broken where it is none
-unfoldable pub number_of : (digits largest : ℕ) → List ℕ → Number
-number_of digits largest f = cond (is_number digits largest f) (Read (decimal f)) Broken
+-- the number that a field is, if it is one
+unfoldable pub number_of : (digits largest : ℕ) → List ℕ → Option ℕ
+number_of digits largest f = cond (is_number digits largest f) (Some (decimal f)) None
 
--- the number that stands before the first byte b of a text, or is all of it where there is no b, and how many bytes it has; or Broken
-unfoldable pub number_up_to : (digits largest b : ℕ) → List ℕ → Before
+-- the number that stands before the first byte b of a text, or is all of it where there is no b, and how many bytes it has, if that is a number
+unfoldable pub number_up_to : (digits largest b : ℕ) → List ℕ → Option LeadingNumber
 number_up_to digits largest b s =
-    cond (is_number digits largest (before b s)) (Before.Read (decimal (before b s)) (length (before b s))) Before.Broken
+    let field = before b s in
+    cond (is_number digits largest field) (Some (record { number = decimal field; length = length field })) None
 
--- the number of a line that is a word, given first, and a number, as `CORES m` of a script, where the word has its space; Broken of any other line
-unfoldable pub number_after : (digits largest : ℕ) → List ℕ → List ℕ → Number
-number_after digits largest w l = cond (begins_with w l) (number_of digits largest (drop (length w) l)) Broken
+-- the number of a line that is a word, given first, and a number, as `CORES m` of a script, where the word has its space; None of any other line
+unfoldable pub number_after : (digits largest : ℕ) → List ℕ → List ℕ → Option ℕ
+number_after digits largest w l = cond (begins_with w l) (number_of digits largest (drop (length w) l)) None
 
 -- n in base ten, where k + 1 digits are enough: its last digit, and before it those of the tenth part, if that is not 0
 unfoldable pub digits_of : (k : ℕ) → ℕ → List ℕ

@@ -1,8 +1,9 @@
 -- A text put together in an array, one part after the other, and lines of numbers (document 01, "The table as text").
-use Rattle.std.specs.Prelude.{ℕ, ◌+◌, min, max, ◌≡◌, List, [], ◌∷◌, ◌++◌, length, take}
+use Rattle.std.specs.Prelude.{ℕ, ◌+◌, min, max, ◌≡◌, List, [], ◌∷◌, ◌++◌, length, take, replicate}
 use Rattle.std.proofs.lemmas.List.Edits.{sets}
 use Rattle.text.specs.Lines.{line_end, space}
 use Rattle.text.specs.Number.{decimal_text}
+use Rattle.text.specs.declared.output.Output.{Output}
 
 -- an array whose bytes from a place on are those of a text, as far as there is room: a byte stored past the end changes nothing
 unfoldable pub overwritten : (array : List ℕ) (place : ℕ) (text : List ℕ) → List ℕ
@@ -13,15 +14,18 @@ overwritten array place text = sets array place text
 unfoldable pub used_after : (size used more : ℕ) → ℕ
 used_after size used more = min (used + more) (max used (size + 1))
 
--- what putting a text after the first `used` bytes does to an array, and what it answers
-pub record Put (before : List ℕ) (used : ℕ) (text after : List ℕ) (r : ℕ) : Type 0 where
-  pub array : after ≡ overwritten before used text
-  pub count : r ≡ used_after (length before) used (length text)
+-- an output of N bytes in which nothing was put yet
+unfoldable pub fresh : (N : ℕ) → Output N
+fresh N = record { bytes = replicate N 0; used = 0 }
 
--- the first r bytes of the array are the text
-pub record Holds (text array : List ℕ) (r : ℕ) : Type 0 where
-  pub holds : take r array ≡ text
-  pub count : r ≡ length text
+-- an output after a text was put in it
+unfoldable pub put : {N : ℕ} → Output N → (text : List ℕ) → Output N
+put o text = record { bytes = overwritten o.bytes o.used text; used = used_after (length o.bytes) o.used (length text) }
+
+-- what was put in an output is the text, and all of it had room
+pub record Holds {N : ℕ} (text : List ℕ) (output : Output N) : Type 0 where
+  pub holds : take output.used output.bytes ≡ text
+  pub count : output.used ≡ length text
 
 -- the numbers of a line after its first: a space before each, and byte 10 after the last
 unfoldable pub further_numbers : List ℕ → List ℕ

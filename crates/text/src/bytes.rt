@@ -7,14 +7,7 @@ ghost use Rattle.text.specs.Words.{same_bytes, begins_with};
 fn find_one_by_one(text: &[u8], byte: u8) -> usize
     ensures { result ≡ length (before byte text.now) }
 {
-    let mut i: usize = 0;
-    while i < text.len() {
-        if text[i] == byte {
-            return i;
-        }
-        i += 1;
-    }
-    i
+    text.iter().position(|b| *b == byte).unwrap_or(text.len())
 }
 
 // How many bytes stand before the first such byte: all of them where there is none. Four are looked at in a turn, with one test of the length for all.
@@ -56,10 +49,8 @@ pub fn same(a: &[u8], b: &[u8]) -> bool
         return false;
     }
     let mut equal = true;
-    let mut i: usize = 0;
-    while i < a.len() {
-        equal = equal & (a[i] == b[i]);
-        i += 1;
+    for i in 0..a.len() {
+        equal &= a[i] == b[i];
     }
     equal
 }
@@ -68,9 +59,5 @@ pub fn same(a: &[u8], b: &[u8]) -> bool
 pub fn begins_with(text: &[u8], word: &[u8]) -> bool
     ensures { result ≡ begins_with word.now text.now }
 {
-    let length = word.len();
-    if text.len() < length {
-        return false;
-    }
-    same(&text[..length], word)
+    word.len() <= text.len() && same(&text[..word.len()], word)
 }

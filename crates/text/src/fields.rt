@@ -2,75 +2,54 @@
 ghost use Rattle.std.specs.Prelude.{◌≡◌};
 ghost use Rattle.text.specs.Fields.{three_numbers, FilledFromLine};
 
-use crate::number;
-use crate::number::Before;
+use crate::number::{LeadingNumber, Limits, number_up_to};
 
-// The numbers of a line of three fields, in their order, or that they are not three numbers. The line is `length` bytes long.
+// The numbers of a line of three, in their order, and how many bytes the line has.
 #[derive(Clone, Copy)]
-pub enum Numbers {
-    Three {
-        first: u32,
-        second: u32,
-        third: u32,
-        length: usize,
-    },
-    Broken,
+pub struct ThreeNumbers {
+    pub first: u32,
+    pub second: u32,
+    pub third: u32,
+    pub length: usize,
 }
 
-// The numbers of the first line of a text, which ends before the first byte 10 or where the text does.
-pub fn three_numbers(text: &[u8], digits: usize, largest: u32) -> Numbers
-    ensures { result ≡ three_numbers digits largest text.now }
+// The numbers of the first line of a text, which ends before the first byte 10 or where the text does, if it is three numbers.
+pub fn three_numbers(text: &[u8], limits: Limits) -> Option<ThreeNumbers>
+    ensures { result ≡ three_numbers limits.digits limits.largest text.now }
 {
-    let Before::Read { number: a, length } = number::number_up_to(text, b' ', digits, largest)
-    else {
-        return Numbers::Broken;
-    };
-    if text.len() <= length {
-        return Numbers::Broken;
+    let first = number_up_to(text, b' ', limits)?;
+    if text.len() <= first.length {
+        return None;
     }
-    let rest = &text[length + 1..];
-    let Before::Read {
-        number: b,
-        length: more,
-    } = number::number_up_to(rest, b' ', digits, largest)
-    else {
-        return Numbers::Broken;
-    };
-    if rest.len() <= more {
-        return Numbers::Broken;
+    let rest = &text[first.length + 1..];
+    let second = number_up_to(rest, b' ', limits)?;
+    if rest.len() <= second.length {
+        return None;
     }
-    let last = &rest[more + 1..];
-    let Before::Read {
-        number: c,
-        length: most,
-    } = number::number_up_to(last, b'\n', digits, largest)
-    else {
-        return Numbers::Broken;
-    };
-    Numbers::Three {
-        first: a,
-        second: b,
-        third: c,
-        length: length + 1 + more + 1 + most,
-    }
+    let last = &rest[second.length + 1..];
+    let third = number_up_to(last, b'\n', limits)?;
+    Some(ThreeNumbers {
+        first: first.number,
+        second: second.number,
+        third: third.number,
+        length: first.length + 1 + second.length + 1 + third.length,
+    })
 }
 
 // Whether a line, which stands here without its byte 10, is as many numbers as the array has entries. The numbers that it begins with are then the
-// array's first entries, up to the first field that is none; where it is as many, they are all of them.
-pub fn fill_from_line(line: &[u8], numbers: &mut [u32], digits: usize, largest: u32) -> bool
-    ensures { FilledFromLine digits largest line.now numbers.old numbers.new result }
+// array's first entries, up to the first field that is none; where it is as many, they are all of them. A flag and no Option: what
+// the array holds is promised where the answer is false too.
+pub fn fill_from_line(line: &[u8], numbers: &mut [u32], limits: Limits) -> bool
+    ensures { FilledFromLine limits.digits limits.largest line.now numbers.old numbers.new result }
 {
     let mut rest = line;
-    let mut i: usize = 0;
-    while i < numbers.len() {
-        let Before::Read { number, length } = number::number_up_to(rest, b' ', digits, largest)
-        else {
+    for i in 0..numbers.len() {
+        let Some(LeadingNumber { number, length }) = number_up_to(rest, b' ', limits) else {
             return false;
         };
         numbers[i] = number;
-        i += 1;
         if rest.len() <= length {
-            return i == numbers.len();
+            return i + 1 == numbers.len();
         }
         rest = &rest[length + 1..];
     }

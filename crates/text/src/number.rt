@@ -2,87 +2,72 @@
 ghost use Rattle.std.specs.Prelude.{◌≡◌};
 ghost use Rattle.text.specs.Number.{is_digit, number_of, number_up_to, number_after};
 
-use crate::bytes;
-
-// The number that a field is, or that it is none.
+// How many digits a number may have, and the largest that it may be.
 #[derive(Clone, Copy)]
-pub enum Number {
-    Read(u32),
-    Broken,
+pub struct Limits {
+    pub digits: usize,
+    pub largest: u32,
 }
 
-// A number that is `length` bytes long, at the start of a text, or that there is none.
+// A number at the start of a text, and how many bytes it has there.
 #[derive(Clone, Copy)]
-pub enum Before {
-    Read { number: u32, length: usize },
-    Broken,
+pub struct LeadingNumber {
+    pub number: u32,
+    pub length: usize,
 }
 
 // Whether a byte is a decimal digit.
+#[tactic(auto, unfolding(crate::specs::Number::is_digit))]
 fn is_digit(byte: u8) -> bool
     ensures { result ≡ is_digit byte }
 {
-    if byte < b'0' {
-        return false;
-    }
-    byte <= b'9'
+    b'0' <= byte && byte <= b'9'
 }
 
 // The number that stands before the first byte `end` of a text, or is all of the text where there is none.
-pub fn number_up_to(text: &[u8], end: u8, digits: usize, largest: u32) -> Before
-    ensures { result ≡ number_up_to digits largest end text.now }
+pub fn number_up_to(text: &[u8], end: u8, limits: Limits) -> Option<LeadingNumber>
+    ensures { result ≡ number_up_to limits.digits limits.largest end text.now }
 {
     let mut number: u32 = 0;
-    let mut i: usize = 0;
-    while i < text.len() {
-        let byte = text[i];
+    let mut length: usize = 0;
+    for &byte in text {
         if byte == end {
             break;
         }
         if !is_digit(byte) {
-            return Before::Broken;
+            return None;
         }
         let more = number as u64 * 10 + (byte - b'0') as u64;
-        if (largest as u64) < more {
-            return Before::Broken;
+        if (limits.largest as u64) < more {
+            return None;
         }
         number = more as u32;
-        i += 1;
+        length += 1;
     }
-    if i == 0 {
-        return Before::Broken;
+    if length == 0 || limits.digits < length {
+        return None;
     }
-    if digits < i {
-        return Before::Broken;
+    if text[0] == b'0' && 1 < length {
+        return None;
     }
-    if text[0] == b'0' {
-        if 1 < i {
-            return Before::Broken;
-        }
-    }
-    Before::Read { number, length: i }
+    Some(LeadingNumber { number, length })
 }
 
 // The number that a field is.
-pub fn number_of(field: &[u8], digits: usize, largest: u32) -> Number
-    ensures { result ≡ number_of digits largest field.now }
+pub fn number_of(field: &[u8], limits: Limits) -> Option<u32>
+    ensures { result ≡ number_of limits.digits limits.largest field.now }
 {
-    let Before::Read { number, length } = number_up_to(field, b' ', digits, largest) else {
-        return Number::Broken;
-    };
+    let LeadingNumber { number, length } = number_up_to(field, b' ', limits)?;
     if length < field.len() {
-        return Number::Broken;
+        return None;
     }
-    Number::Read(number)
+    Some(number)
 }
 
 // The number of a line that is a word and one number: the word has its space.
-pub fn number_after(line: &[u8], word: &[u8], digits: usize, largest: u32) -> Number
-    ensures { result ≡ number_after digits largest word.now line.now }
+pub fn number_after(line: &[u8], word: &[u8], limits: Limits) -> Option<u32>
+    ensures { result ≡ number_after limits.digits limits.largest word.now line.now }
 {
-    if !bytes::begins_with(line, word) {
-        return Number::Broken;
-    }
-    let start = word.len();
-    number_of(&line[start..], digits, largest)
+    let field = line.strip_prefix(word)?;
+    number_of(field, limits)
 }

@@ -1,10 +1,7 @@
 -- The number is that of the tasks so far that ran.
-use Rattle.std.proofs.Common.{◌≡◌, ◌-◌, ◌≤◌, false, get_or}
+use Rattle.std.proofs.Common.{◌≡◌, ◌≤◌, false, get_or}
 use Rattle.laws.specs.Sums.{sum_to, bit}
 use Rattle.machine.proofs.machine.Machine.number_that_ran.Given as goal
 
 abbrev pub invariant-loop-i : goal.invariant-loop-i
-invariant-loop-i l = (l.i ≤ l.count) × (l.number ≤ l.i) × (l.number ≡ sum_to l.i (λ k. bit (get_or l.ran k false)))
-
-abbrev pub decreases-loop-i : goal.decreases-loop-i
-decreases-loop-i l = l.count - l.i
+invariant-loop-i l = record { few : l.number ≤ l.i; counted : l.number ≡ sum_to l.i (λ k. bit (get_or l.ran k false)) }

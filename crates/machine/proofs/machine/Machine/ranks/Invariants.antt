@@ -1,6 +1,5 @@
 -- The ranks and the count of the tasks so far.
-use Rattle.std.proofs.Common.{◌-◌, ◌≤◌, ◌≡◌}
-use lib.ListN.{replicate}
+use Rattle.std.proofs.Common.{◌≡◌, ◌≤◌, replicate}
 use Rattle.laws.specs.Sums.{sum_to, bit}
 use Rattle.laws.specs.Lists.{replaced}
 use Rattle.tasks.specs.Limits.{max_tasks}
@@ -12,10 +11,8 @@ use Rattle.machine.proofs.machine.Machine.ranks.Given as goal
 
 abbrev pub invariant-loop-i : goal.invariant-loop-i
 invariant-loop-i l =
-    (l.i ≤ l.count)
-    × (l.ranks ≡ replaced l.i (rank_at l.self (pick l.self 0)) (replicate max_tasks never))
-    × (l.open_count ≡ sum_to l.i (λ k. bit (job_at l.self k).«open»))
-    × (l.open_count ≤ l.i)
-
-abbrev pub decreases-loop-i : goal.decreases-loop-i
-decreases-loop-i l = l.count - l.i
+    record {
+      ranked : l.by_task ≡ replaced l.i (rank_at l.self (pick l.self 0)) (replicate max_tasks never);
+      counted : l.open_tasks ≡ sum_to l.i (λ k. bit (job_at l.self k).«open»);
+      few : l.open_tasks ≤ l.i;
+    }

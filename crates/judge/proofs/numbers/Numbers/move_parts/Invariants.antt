@@ -1,0 +1,13 @@
+-- The invariant: the sums before k have the part with the new slack in place of that with the old one.
+use Rattle.std.proofs.Common.{◌+◌, ◌-◌, ◌≡◌, get_or}
+use Rattle.laws.specs.Lists.{replaced}
+use Rattle.judge.specs.Numbers.{set_of}
+use Rattle.judge.specs.Parts.{part_with}
+use Rattle.judge.proofs.numbers.Numbers.move_parts.Given as goal
+
+abbrev pub invariant-loop-k : goal.invariant-loop-k
+invariant-loop-k l =
+    l.sums
+    ≡ replaced l.k
+    (λ j. get_or l.fn.sums j 0 - part_with (set_of l.self) l.i l.before j + part_with (set_of l.self) l.i l.slack j)
+    l.fn.sums
