@@ -3,7 +3,7 @@
 
 ghost use Rattle.std.specs.Prelude.{◌≡◌, ◌+◌, ◌*◌, ◌≤◌, length};
 ghost use Rattle.text.specs.Lines.{lines, unended};
-ghost use Rattle.text.specs.Output.{Holds};
+ghost use Rattle.text.specs.Output.{fresh, Holds};
 ghost use Rattle.script.specs.Output.{PutsWithin, refusal_room};
 ghost use Rattle.replay.specs.Script.{max_script_length, answer_lines, started, printed_for, printed, call_room, room};
 
@@ -110,18 +110,18 @@ fn put_replay(output: &mut Printed, script: &[u8])
     }
 }
 
-// What is printed for a script.
-fn replay(script: &[u8]) -> Printed
-    ensures { Holds (printed script.now) result }
+// Puts what is printed for a script in a new output, which is lent: an answer of its size would be copied.
+fn replay(output: &mut Printed, script: &[u8])
+    requires { output.old ≡ fresh room }
+    ensures { Holds (printed script.now) output.new }
 {
-    let mut output = Output::new();
-    put_replay(&mut output, script);
-    output
+    put_replay(output, script);
 }
 
 fn main(rt: HostRuntime) {
     let mut script = [0u8; INPUT_ROOM];
     let n = stdio::read_input(&rt, &mut script);
-    let output = replay(&script[..n]);
+    let mut output = Output::new();
+    replay(&mut output, &script[..n]);
     stdio::write_output(&rt, output.text());
 }

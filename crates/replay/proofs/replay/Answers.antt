@@ -4,4 +4,4 @@ use Rattle.script.proofs.OutputLaws.{within_all}
 use Rattle.replay.proofs.replay.Goals as goal
 
 pub returns : goal.returns
-returns c = within_all _ _ c.new-output.ensures c.put_replay.ensures (omega arith)
+returns c = within_all _ _ c.requires c.put_replay.ensures (omega arith)
