@@ -8,6 +8,7 @@ ghost use Rattle.judge.specs.SlackJudge.{admission_values_of, admission};
 use crate::numbers::{Numbers, numbers_of};
 use tasks::check::{check, check_numbers};
 use tasks::limits::MAX_TASKS;
+use tasks::outcome::Outcome;
 use tasks::refusals::Refusal;
 use tasks::table::{Table, TaskNumbers};
 
@@ -29,6 +30,17 @@ impl<'a> Numbers<'a> {
         self.last_round(&mut sums, cores);
         let reaching = self.count_by_sums(&sums, cores);
         reaching <= cores
+    }
+}
+
+// Whether judging was carried out, or why not.
+#[tactic(auto, unfolding(crate::specs::SlackJudge::admission_values_of))]
+pub fn outcome(admission: Result<bool, Refusal>) -> Outcome
+    ensures { result ≡ (admission_values_of admission).outcome }
+{
+    match admission {
+        Ok(_) => Ok(()),
+        Err(why) => Err(why),
     }
 }
 

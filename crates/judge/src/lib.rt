@@ -3,6 +3,7 @@
 
 use crate::urgent::count_urgent;
 use tasks::check::check;
+use tasks::outcome::Outcome;
 use tasks::refusals::Refusal;
 use tasks::table::Table;
 
@@ -22,6 +23,39 @@ ghost use Rattle.judge.specs.Judge.{values_of, judged};
 pub struct Verdict {
     pub count: u32,
     pub admitted: bool,
+}
+
+#[tactic(auto, unfolding(crate::specs::Judge::values_of, crate::specs::Judge::refused_values))]
+impl Verdict {
+    // Whether judging was carried out, or why not.
+    pub fn outcome(verdict: Result<Verdict, Refusal>) -> Outcome
+        ensures { result ≡ (values_of verdict).outcome }
+    {
+        match verdict {
+            Ok(_) => Ok(()),
+            Err(why) => Err(why),
+        }
+    }
+
+    // COUNT: 0 where judging was refused.
+    pub fn count(verdict: Result<Verdict, Refusal>) -> u32
+        ensures { result ≡ (values_of verdict).count }
+    {
+        match verdict {
+            Ok(verdict) => verdict.count,
+            Err(_) => 0,
+        }
+    }
+
+    // Whether the table is admitted: not where judging was refused.
+    pub fn admits(verdict: Result<Verdict, Refusal>) -> bool
+        ensures { result ≡ (values_of verdict).admits }
+    {
+        match verdict {
+            Ok(verdict) => verdict.admitted,
+            Err(_) => false,
+        }
+    }
 }
 
 // The verdict on a table and a number of cores, or why there is none.

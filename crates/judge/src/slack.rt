@@ -8,6 +8,7 @@ ghost use Rattle.judge.specs.SlackJudge.{slack_values_of, slack_judged};
 use crate::numbers::{Numbers, numbers_of};
 use tasks::check::check;
 use tasks::limits::MAX_TASKS;
+use tasks::outcome::Outcome;
 use tasks::refusals::Refusal;
 use tasks::table::Table;
 
@@ -16,6 +17,39 @@ use tasks::table::Table;
 pub struct SlackVerdict {
     pub rounds: u32,
     pub admitted: bool,
+}
+
+#[tactic(auto, unfolding(crate::specs::SlackJudge::slack_values_of, crate::specs::SlackJudge::refused_by_slack))]
+impl SlackVerdict {
+    // Whether the test was carried out, or why not.
+    pub fn outcome(verdict: Result<SlackVerdict, Refusal>) -> Outcome
+        ensures { result ≡ (slack_values_of verdict).outcome }
+    {
+        match verdict {
+            Ok(_) => Ok(()),
+            Err(why) => Err(why),
+        }
+    }
+
+    // The rounds made: 0 where the test was refused.
+    pub fn rounds(verdict: Result<SlackVerdict, Refusal>) -> u32
+        ensures { result ≡ (slack_values_of verdict).rounds }
+    {
+        match verdict {
+            Ok(verdict) => verdict.rounds,
+            Err(_) => 0,
+        }
+    }
+
+    // Whether the table is admitted: not where the test was refused.
+    pub fn admits(verdict: Result<SlackVerdict, Refusal>) -> bool
+        ensures { result ≡ (slack_values_of verdict).admits }
+    {
+        match verdict {
+            Ok(verdict) => verdict.admitted,
+            Err(_) => false,
+        }
+    }
 }
 
 // The rounds of a table, and whether at most `cores` sums of the last one reach.

@@ -6,8 +6,8 @@ ghost use Rattle.text.specs.Output.{put, Holds};
 ghost use Rattle.tasks.specs.Limits.{max_cores};
 ghost use Rattle.lines.specs.Printed.{header, line_numbers, verdict_line, lines_up_to, printed};
 
-use judge::judge;
-use judge::slack::judge_by_slack;
+use judge::slack::{SlackVerdict, judge_by_slack};
+use judge::{Verdict, judge};
 use tasks::limits::MAX_CORES;
 use tasks::table::Table;
 use text::output::Output;
@@ -79,19 +79,19 @@ impl Test {
 
 impl TestedTable {
     // The numbers of a line: the cores, COUNT or the rounds made, and 1 for admitted or 0.
-    #[tactic(auto, using(laws::proofs::Booleans::bool_byte_lem), unfolding(crate::specs::Printed::line_numbers, judge::specs::Judge::values_of, judge::specs::Judge::refused_values, judge::specs::SlackJudge::slack_values_of, judge::specs::SlackJudge::refused_by_slack))]
+    #[tactic(auto, using(laws::proofs::Booleans::bool_byte_lem), unfolding(crate::specs::Printed::line_numbers))]
     fn line_numbers(&self, cores: u32) -> [u64; 3]
         ensures { result ≡ line_numbers self.now.test self.now.table cores }
     {
         let (number, admits) = match self.test {
-            Test::Window => match judge(self.table, cores) {
-                Ok(verdict) => (verdict.count, verdict.admitted),
-                Err(_) => (0, false),
-            },
-            Test::Slack => match judge_by_slack(self.table, cores) {
-                Ok(verdict) => (verdict.rounds, verdict.admitted),
-                Err(_) => (0, false),
-            },
+            Test::Window => {
+                let verdict = judge(self.table, cores);
+                (Verdict::count(verdict), Verdict::admits(verdict))
+            }
+            Test::Slack => {
+                let verdict = judge_by_slack(self.table, cores);
+                (SlackVerdict::rounds(verdict), SlackVerdict::admits(verdict))
+            }
         };
         [cores as u64, number as u64, admits as u64]
     }
