@@ -1,5 +1,4 @@
-// EDZL on plain numbers: the definitions stand in specs/, the theory in proofs/. Here is what the code of the tests computes with. `min` and
-// `saturating_sub` promise what the library's methods do, which the code calls itself: they stay so that must-fail/ and mutants/ can try wrong ones.
+// EDZL on plain numbers: the definitions stand in specs/, the theory in proofs/. Here is what the code of the tests computes with.
 #![tactic(auto)]
 
 ghost use Rattle.std.specs.Prelude.{◌≡◌, ◌-◌, min};

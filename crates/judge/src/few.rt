@@ -4,7 +4,7 @@ ghost use Rattle.tasks.specs.Limits.{max_period};
 ghost use Rattle.judge.specs.Parts.{part};
 
 use crate::numbers::Numbers;
-use edzl::own_part;
+use edzl::{min, own_part, saturating_sub};
 use tasks::table::PerTask;
 
 // Up to so many tasks are few.
@@ -20,7 +20,7 @@ fn divided_part(period: u32, budget: u32, window: u32, spare: u32) -> u32
 {
     let whole = window / period;
     let left = window - whole * period;
-    (whole * budget + budget.min(left)).min(spare)
+    min(whole * budget + min(budget, left), spare)
 }
 
 impl<'a> Numbers<'a> {
@@ -39,7 +39,7 @@ impl<'a> Numbers<'a> {
         let mut sum = own_part(self.budgets[k], spare);
         for i in 0..self.count {
             if i != k {
-                let window = deadline.saturating_sub(slacks[i]);
+                let window = saturating_sub(deadline, slacks[i]);
                 sum += divided_part(self.periods[i], self.budgets[i], window, spare);
             }
         }

@@ -5,7 +5,7 @@ ghost use Rattle.edzl.specs.Slack.{new_slack};
 ghost use Rattle.judge.specs.Parts.{own_part};
 
 use crate::numbers::Numbers;
-use edzl::own_part;
+use edzl::{own_part, saturating_sub};
 use tasks::limits::MAX_TASKS;
 use tasks::table::PerTask;
 
@@ -24,7 +24,7 @@ fn slack_of(budget: u32, deadline: u32, sum: u32, cores: u32) -> u32
 {
     let spare = deadline - budget;
     let needed = cores * spare + own_part(budget, spare);
-    (needed.saturating_sub(sum) + cores - 1) / cores
+    (saturating_sub(needed, sum) + cores - 1) / cores
 }
 
 impl<'a> Numbers<'a> {

@@ -7,6 +7,7 @@ ghost use Rattle.judge.specs.Parts.{part};
 
 use crate::few::FEW_TASKS;
 use crate::numbers::Numbers;
+use edzl::{min, saturating_sub};
 use tasks::limits::MAX_TASKS;
 use tasks::table::PerTask;
 
@@ -32,9 +33,9 @@ impl Interfering {
     {
         let guess = (window as u64 * self.inverse as u64 >> 32) as u32;
         let left = window - guess * self.period;
-        let more = left.saturating_sub(self.period);
-        let interference = guess * self.budget + self.budget.min(left) + self.budget.min(more);
-        interference.min(spare)
+        let more = saturating_sub(left, self.period);
+        let interference = guess * self.budget + min(self.budget, left) + min(self.budget, more);
+        min(interference, spare)
     }
 }
 
@@ -100,8 +101,8 @@ impl<'a> Numbers<'a> {
         for k in 0..self.count {
             let deadline = self.deadlines[k];
             let spare = deadline - self.budgets[k];
-            let old = task.part(deadline.saturating_sub(before), spare);
-            let new = task.part(deadline.saturating_sub(slack), spare);
+            let old = task.part(saturating_sub(deadline, before), spare);
+            let new = task.part(saturating_sub(deadline, slack), spare);
             sums[k] = sums[k] - old + new;
         }
     }
