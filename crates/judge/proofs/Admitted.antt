@@ -1,8 +1,9 @@
--- What an admission says of the table. Others cite: `admission_outcome` and `admission_not_0`, of a refusal; `SlackAdmits` with
--- `admission_means`, of a table that is admitted; and `window_admitted`, that what the window test admits is admitted.
+-- What an admission says of the table. Others cite: `admission_outcome` and `admission_not_0`, of a refusal; `AdmissionIs` with
+-- `judged_admission`, of one that was carried out; `SlackAdmits` with `admission_means`, of a table that is admitted; and `window_admitted`, that what the
+-- window test admits is admitted.
 use Prim.Native.Nat.{ℕ}
 use mathlib.Core.Path.{◌≡◌, refl}
-use mathlib.Core.Bool.{true, false}
+use mathlib.Core.Bool.{Bool, true, false}
 use Rattle.std.proofs.Common.{Ok}
 use Rattle.laws.proofs.CaseSplits.{not_both}
 use Rattle.tasks.specs.declared.table.Table.{Table}
@@ -14,9 +15,14 @@ use Rattle.edzl.specs.Slack.{slack_admits}
 use Rattle.edzl.proofs.SlackRounds.{window_admits}
 use Rattle.tasks.specs.TaskSet.{tasks_of}
 use Rattle.judge.specs.Judge.{judged}
-use Rattle.judge.specs.SlackJudge.{refused_by_slack, slack_judged_after, slack_judged, admission}
+use Rattle.judge.specs.SlackJudge.{refused_by_slack, slack_judged_after, slack_judged, admission_values_of, admission}
 use Rattle.judge.proofs.Outcome.{admits_means}
 use Rattle.judge.proofs.SlackOutcome.{slack_outcome}
+
+-- an admission that was carried out
+pub record AdmissionIs (t : Table) (m : ℕ) (admits : Bool) : Type 0 where
+  pub outcome : (admission t m).outcome ≡ Ok tt
+  pub admits_is : (admission t m).admits ≡ admits
 
 -- an admitted table can be judged and passes the slack test
 pub record SlackAdmits (t : Table) (m : ℕ) : Type 0 where
@@ -31,6 +37,10 @@ module _ (t : Table) (m : ℕ) where
 
   pub admission_not_0 : Not0 (admission t m).outcome
   admission_not_0 = rw admission_outcome (checked_not_0 t m)
+
+  pub judged_admission : (admits : Bool) → admission_values_of (Ok admits) ≡ admission t m → AdmissionIs t m admits
+  unfolding admission_values_of
+  judged_admission admits e = record { outcome = rw (← e); admits_is = rw (← e) }
 
   pub admission_means : (admission t m).admits ≡ true → SlackAdmits t m
   unfolding admission slack_judged slack_judged_after refused_by_slack

@@ -1,6 +1,6 @@
 -- The tests where the sum of a task counts the task itself. In its own window, which its slack shortens, a task interferes by its budget, so its own
--- part is known and stands on both sides of the test. Others cite `sum_with_own`; and of how many such sums reach what they must, `urgent_by_sums`, that
--- the window test counts them, and `window_by_sums` and `admits_by_sums`, whether the slack test admits.
+-- part is known and stands on both sides of the test. Others cite `sum_with_own`; and of how many such sums reach what they must, `count_with_own`, and with
+-- it `urgent_by_sums`, that the window test counts them, and `window_by_sums` and `admits_by_sums`, whether the slack test admits.
 use Prim.Native.Nat.{ℕ, ◌+◌, ◌-◌, ◌*◌, ◌≤◌, ◌<◌}
 use native.Mathlib.Omega.{arith}
 use mathlib.Core.Path.{◌≡◌, ap}
@@ -36,7 +36,7 @@ module _ (tasks : TaskSet) (well : WellFormed tasks) where
   sum_with_own slack k h fits-slack = omega (arith, sum_others (part_of tasks slack k) k tasks.count h, own slack k h fits-slack)
 
 -- The test on sums with the own part counts as that on sums without.
-count_with_own : (tasks : TaskSet) (m : ℕ) (sums : List ℕ) (others : ℕ → ℕ) →
+pub count_with_own : (tasks : TaskSet) (m : ℕ) (sums : List ℕ) (others : ℕ → ℕ) →
     WithOwn tasks others sums →
     count_by_sums tasks m sums ≡ sum_to tasks.count (λ k. bit (leb (m * spare tasks k) (others k)))
 unfolding spare
