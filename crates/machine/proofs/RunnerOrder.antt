@@ -1,6 +1,7 @@
 -- The runners in precedence, as a list. Others cite: `listed_picked`, that those listed are those picked; and `listed_distinct`, `listed_inside` and
 -- `listed_length`, that they are so many different tasks of the table.
 use Prim.Native.Nat.{ℕ, zero, suc, ◌≤◌, ◌<◌}
+use Rattle.std.specs.Prelude.{unwrap_or}
 use mathlib.Core.Path.{◌≡◌, refl, sym, ◌∙◌}
 use mathlib.Core.Bool.{true, false, or-true, or-false}
 use mathlib.Core.List.{[], ◌∷◌, ◌++◌}
@@ -11,6 +12,7 @@ use borrow.Author.Tests.{eq-eqb, ne_eqb}
 use Rattle.laws.proofs.CaseSplits.{by_equal, not_both}
 use Rattle.laws.proofs.Replaced.{replicate_entry}
 use Rattle.tasks.specs.Limits.{max_tasks}
+use Rattle.job.specs.Search.{next_runner}
 use Rattle.job.proofs.Next.{Found}
 use Rattle.cores.specs.Assign.{is_among}
 use Rattle.cores.proofs.AmongLaws.{among_more}
@@ -79,8 +81,8 @@ module _ (m : Machine) (fits : m.table.count ≤ max_tasks) where
       listed_inside n (omega arith) i
       (rw (next_listed n h, among_more (runner_order m n) x i, ne_eqb x i (λ s. ne (sym s)), or-false) at e))
 
-  pub listed_length : (n : ℕ) → n ≤ open_count m → length (runner_order m n) ≡ n
+  pub listed_length : (n : ℕ) → length (runner_order m n) ≡ n
   unfolding runner_order
-  listed_length zero h = refl
-  listed_length (suc n) h =
-      rw (next_listed n h) (omega (arith, length-append (runner_order m n) ((next n h).index ∷ []), listed_length n (omega arith)))
+  listed_length zero = refl
+  listed_length (suc n) =
+      omega (arith, length-append (runner_order m n) (unwrap_or (next_runner (candidates m (pick m n))) 0 ∷ []), listed_length n)

@@ -64,7 +64,7 @@ module _ (m : Machine) (k : ℕ) (ok : sound m ≡ true) where
 
   few_listed : length (runner_order m n) ≤ k
   unfolding runner_count
-  few_listed = omega (arith, listed_length m (sound_passes m ok).count_fits n (runners_open m k))
+  few_listed = omega (arith, listed_length m (sound_passes m ok).count_fits n)
 
   few_ran : (c : ℕ) → sum_to c (λ i. bit (get_or (runners m k) i false)) ≤ k
   few_ran c =
