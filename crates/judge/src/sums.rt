@@ -61,16 +61,18 @@ impl<'a> Numbers<'a> {
         }
     }
 
-    // Adds to each sum what task i counts for in it.
+    // Adds to each sum what task i counts for in it. The arrays are taken out of `self` first: fetched through it in each turn, which also writes a sum, the
+    // loop takes one task at a time (docs/BENCHMARKS.md, "Verdicts").
     fn add_parts(&self, i: usize, sums: &mut PerTask)
         requires in_table { i < self.now.count }
         requires small { (k : ℕ) → k < self.now.count → get_or sums.old k 0 ≤ max_tasks * max_period }
         ensures { (k : ℕ) → k < self.now.count → get_or sums.new k 0 ≡ get_or sums.old k 0 + part_with (set_of self.now) i 0 k }
     {
         let task = self.interfering(i);
+        let (budgets, deadlines) = (self.budgets, self.deadlines);
         for k in 0..self.count {
-            let window = self.deadlines[k];
-            let spare = window - self.budgets[k];
+            let window = deadlines[k];
+            let spare = window - budgets[k];
             sums[k] += task.part(window, spare);
         }
     }
@@ -89,7 +91,8 @@ impl<'a> Numbers<'a> {
         }
     }
 
-    // Puts into each sum what task i counts for with its new slack, in place of that with the slack before.
+    // Puts into each sum what task i counts for with its new slack, in place of that with the slack before. The arrays are taken out of `self` first, as in
+    // `add_parts`.
     fn move_parts(&self, i: usize, before: u32, slack: u32, sums: &mut PerTask)
         requires in_table { i < self.now.count }
         requires part_within { (k : ℕ) → k < self.now.count → part_with (set_of self.now) i before k ≤ get_or sums.old k 0 }
@@ -98,9 +101,10 @@ impl<'a> Numbers<'a> {
             get_or sums.new k 0 ≡ get_or sums.old k 0 - part_with (set_of self.now) i before k + part_with (set_of self.now) i slack k }
     {
         let task = self.interfering(i);
+        let (budgets, deadlines) = (self.budgets, self.deadlines);
         for k in 0..self.count {
-            let deadline = self.deadlines[k];
-            let spare = deadline - self.budgets[k];
+            let deadline = deadlines[k];
+            let spare = deadline - budgets[k];
             let old = task.part(saturating_sub(deadline, before), spare);
             let new = task.part(saturating_sub(deadline, slack), spare);
             sums[k] = sums[k] - old + new;
