@@ -1,14 +1,16 @@
 -- The calls of the tasks that are named, one after the other as the code makes them, where i tasks were looked at. Others cite, by what the next task is,
--- `left_idle`, `left_taken` and `left_refused`; and `left_none`, at the end.
-use Prim.Native.Nat.{ℕ, ◌+◌, ◌≤◌, ◌<◌}
+-- `left_idle`, `left_taken` and `left_refused`; `left_none`, at the end; and `none_left`, where the value names no task.
+use Prim.Native.Nat.{ℕ, zero, suc, ◌+◌, ◌≤◌, ◌<◌}
 use native.Mathlib.Numerals.{add-one}
-use mathlib.Core.Path.{◌≡◌}
+use mathlib.Core.Path.{◌≡◌, refl}
 use mathlib.Core.Bool.{Bool, true, false}
-use mathlib.Core.List.{List}
+use mathlib.Core.List.{List, []}
 use Rattle.std.specs.Prelude.{Some, None, Ok, Err}
 use lib.ListN.{length, get_or, drop, drop_of_length-le}
 use lib.Seq.{drop-cons}
 use Rattle.tasks.specs.declared.refusals.Refusal.{Refusal}
+use Rattle.tasks.specs.Flags.{flags_from, flags_of}
+use Rattle.tasks.specs.Limits.{max_tasks}
 use Rattle.tasks.specs.Outcome.{is_done}
 use Rattle.machine.specs.Calls.{step}
 use Rattle.machine.specs.Play.{machine_after}
@@ -41,3 +43,13 @@ module _ (call : ℕ → Call) (named : List Bool) (m : Machine) (i : ℕ) where
       pub left_refused : (why : Refusal) → (step m (call i)).outcome ≡ Err why → after_calls m left ≡ None
       unfolding after_calls calls_from all_taken is_done
       left_refused why told = rw (drop-cons named i false h, here, told)
+
+-- a value of 0 names no task
+no_calls : (call : ℕ → Call) (i n : ℕ) → calls_from call i (flags_from n 0) ≡ []
+unfolding flags_from calls_from
+no_calls call i zero = refl
+no_calls call i (suc n) = no_calls call (suc i) n
+
+pub none_left : (call : ℕ → Call) (m : Machine) → after_calls m (calls_from call 0 (flags_of 0)) ≡ Some m
+unfolding flags_of after_calls all_taken machine_after
+none_left call m = rw (no_calls call 0 max_tasks)

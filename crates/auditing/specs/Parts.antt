@@ -3,6 +3,8 @@ use Rattle.std.specs.Prelude.{◌≡◌, ◌<◌, List, cond, ℕ, Option, Some,
 use Rattle.tasks.specs.Limits.{max_tasks}
 use Rattle.machine.specs.declared.machine.Machine.{Machine}
 use Rattle.machine.specs.declared.call.Call.{Call}
+use Rattle.machine.specs.declared.answer.Answer.{Answer}
+use Rattle.machine.specs.Calls.{step}
 use Rattle.machine.specs.Play.{machine_after}
 use Rattle.auditing.specs.Log.{is_value_line, values_of}
 use Rattle.auditing.specs.Line.{all_taken, line_taken, after_line}
@@ -12,9 +14,9 @@ use Rattle.auditing.specs.declared.line.LogLine.{LogLine}
 unfoldable pub line_read : List ℕ → Option LogLine
 line_read l = cond (is_value_line l) (Some (values_of l)) None
 
--- what may come of a task's index, as `post` says, is no other call than the one that is made of it
-abbrev pub Makes : (post : ℕ → Call → Type 0) → (made : ℕ → Call) → Type 0
-Makes post made = (i : ℕ) (call : Call) → i < max_tasks → post i call → call ≡ made i
+-- what may come of a machine and a task's index, as `post` says, is no other answer than the machine's to the call that is made of the index
+abbrev pub Makes : (post : Machine → ℕ → Answer → Type 0) → (made : ℕ → Call) → Type 0
+Makes post made = (m : Machine) (i : ℕ) (answer : Answer) → i < max_tasks → post m i answer → answer ≡ step m (made i)
 
 -- the machine after some calls, where all are taken
 unfoldable pub after_calls : Machine → List Call → Option Machine

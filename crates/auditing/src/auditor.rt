@@ -142,7 +142,9 @@ impl Auditor {
     fn line_ended(self) -> Self
         ensures { result ≡ with_line self (kept_line self) }
     {
-        let kept = &self.kept[..self.used.min(LINE_ROOM)];
+        // A copy of the line: a borrow of it would put the whole auditor into memory.
+        let line = self.kept;
+        let kept = &line[..self.used.min(LINE_ROOM)];
         if 0 < self.line {
             return self.value_line_ended(kept);
         }

@@ -1,65 +1,70 @@
 // One line of a log, judged on a machine.
-ghost use Rattle.std.specs.Prelude.{◌≡◌, ℕ, ◌<◌};
+ghost use Rattle.std.specs.Prelude.{◌≡◌, ℕ, ◌<◌, cond, Some, None};
 ghost use Rattle.tasks.specs.Flags.{flags_of};
 ghost use Rattle.tasks.specs.Limits.{max_tasks};
 ghost use Rattle.machine.specs.declared.call.Call.{Call};
+ghost use Rattle.machine.specs.declared.machine.Machine.{Machine};
 ghost use Rattle.auditing.specs.Line.{calls_from};
 ghost use Rattle.auditing.specs.Parts.{Makes, after_calls, line_judged};
 
 use crate::line::LogLine;
 use crate::running::legal_run;
-use machine::call::Call;
+use machine::answer::Answer;
 use machine::machine::Machine;
 use tasks::flags::flags_of;
 
-// The machine after the calls of the tasks that a value names, in rising number, where it takes them all. A task's call is made from its index.
-fn take_calls<F: Fn(usize) -> Call>(machine: Machine, value: u32, call_of: F) -> Option<Machine>
-    requires callable { (i : ℕ) → i < max_tasks → F.pre call_of i }
-    ensures { (made : ℕ → Call) → Makes (F.post call_of) made → result ≡ after_calls machine (calls_from made 0 (flags_of value)) }
+// Whether a machine takes a call of each task that a value names, in rising number: it is then the machine after these calls. A task's call is made on the
+// machine from the task's index. Most values name none.
+fn take_calls<F: Fn(Machine, usize) -> Answer>(machine: &mut Machine, value: u32, call: F) -> bool
+    requires callable { (m : Machine) (i : ℕ) → i < max_tasks → F.pre call m i }
+    ensures { (made : ℕ → Call) → Makes (F.post call) made → after_calls machine.old (calls_from made 0 (flags_of value)) ≡ cond result (Some machine.new) None }
 {
-    let mut after = machine;
+    if value == 0 {
+        return true;
+    }
     for (i, &named) in flags_of(value).iter().enumerate() {
         if named {
-            let answer = after.step(call_of(i));
+            let answer = call(*machine, i);
             let Ok(()) = answer.outcome else {
-                return None;
+                return false;
             };
-            after = answer.machine;
+            *machine = answer.machine;
         }
     }
-    Some(after)
+    true
 }
 
 // The machine after a line, where it takes the line's releases, each of the whole budget, its finishes, and then its running, which has to go by the rules.
 pub(crate) fn take_line(machine: Machine, line: LogLine) -> Option<Machine>
     ensures { result ≡ line_judged machine line }
 {
-    let table = machine.table;
-    let open = take_calls(
-        machine,
+    let mut after = machine;
+    let released = take_calls(
+        &mut after,
         line.released,
-        |i|
+        |open, i|
             requires { i < max_tasks }
-        {
-            Call::Release {
-                number: i as u32 + 1,
-                need: table.tasks[i].budget,
-            }
-        },
-    )?;
-    let before = take_calls(
-        open,
+        { open.release(i as u32 + 1, machine.table.tasks[i].budget) },
+    );
+    if !released {
+        return None;
+    }
+    let finished = take_calls(
+        &mut after,
         line.finished,
-        |i|
+        |open, i|
             requires { i < max_tasks }
-        { Call::Finish(i as u32 + 1) },
-    )?;
+        { open.finish(i as u32 + 1) },
+    );
+    if !finished {
+        return None;
+    }
     let ran = flags_of(line.ran);
-    let answer = before.slot_with(ran);
+    let answer = after.slot_with(ran);
     let Ok(()) = answer.outcome else {
         return None;
     };
-    if !legal_run(before, ran) {
+    if !legal_run(after, ran) {
         return None;
     }
     Some(answer.machine)

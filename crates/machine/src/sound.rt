@@ -32,7 +32,8 @@ impl Machine {
         self.offer_verdict(task).unwrap_or(false)
     }
 
-    // Whether a start would take its table and its cores, every job is sound, and so are the recorded cores and the held task.
+    // Whether a start would take its table and its cores, every job is sound, and so are the recorded cores and the held task. A `match` and no closure over
+    // the machine, whose borrow would copy it at each call.
     #[tactic(auto, using(crate::proofs::SoundLaws::checked_fits), unfolding(crate::specs::Sound::sound, crate::specs::Offer::held_sound, tasks::specs::Outcome::is_done))]
     pub fn is_sound(self) -> bool
         ensures { result ≡ sound self }
@@ -42,6 +43,9 @@ impl Machine {
         }
         self.jobs_sound()
             && cores_sound(&self.assigned[..self.table.count])
-            && self.held.is_none_or(|task| self.takes_offer(task))
+            && match self.held {
+                None => true,
+                Some(task) => self.takes_offer(task),
+            }
     }
 }

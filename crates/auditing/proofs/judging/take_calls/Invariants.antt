@@ -7,5 +7,5 @@ use Rattle.auditing.proofs.judging.take_calls.Given as goal
 
 abbrev pub invariant-loop-i : goal.invariant-loop-i
 invariant-loop-i g l =
-    (made : ℕ → Call) → Makes (goal.F-post g l.call_of) made
-    → after_calls l.fn.machine (calls_from made 0 l.named-items) ≡ after_calls l.after (calls_from made l.i (drop l.i l.named-items))
+    (made : ℕ → Call) → Makes (goal.F-post g l.fn.call) made
+    → after_calls l.fn.machine (calls_from made 0 l.named-items) ≡ after_calls l.machine (calls_from made l.i (drop l.i l.named-items))
