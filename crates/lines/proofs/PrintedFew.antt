@@ -1,4 +1,5 @@
--- What is printed has room. Others cite `printed_held`: an output with room for it holds all of it; and `lines_few`, how many bytes lines have of which each has few.
+-- What is printed has room. Others cite `printed_held`: an unused output with room for it holds all of it; and `lines_few`, how many bytes lines have of
+-- which each has few.
 use Prim.Native.Nat.{ℕ, zero, suc, ◌*◌, ◌≤◌, ◌<◌, min}
 use native.Mathlib.Omega.{arith}
 use mathlib.Core.Bool.{Bool, true, false, cond}
@@ -6,7 +7,7 @@ use mathlib.Core.Path.{◌≡◌}
 use mathlib.Core.List.{List, [], ◌∷◌}
 use lib.ListN.{length, length-append}
 use Rattle.text.specs.declared.output.Output.{Output}
-use Rattle.text.specs.Output.{fresh, put, Holds, further_numbers, numbers_line, refused_line}
+use Rattle.text.specs.Output.{put, Holds, further_numbers, numbers_line, refused_line}
 use Rattle.text.proofs.DigitLaws.{text_few}
 use Rattle.text.proofs.Putting.{put_all}
 use Rattle.tasks.specs.declared.table.Table.{Table}
@@ -61,5 +62,6 @@ unfolding printed
 printed_few test s = after_few test (reading s).outcome (reading s).table
 
 pub printed_held :
-    {N : ℕ} {o p : Output N} (test : Test) (s : List ℕ) → room ≤ N → o ≡ fresh N → p ≡ put o (printed test s) → Holds (printed test s) p
-printed_held test s enough e f = put_all (printed test s) e f (omega (arith, printed_few test s))
+    {N : ℕ} (o : Output N) {p : Output N} (test : Test) (s : List ℕ) → room ≤ length o.bytes → o.used ≡ 0 → p ≡ put o (printed test s)
+    → Holds (printed test s) p
+printed_held o test s enough e f = put_all o (printed test s) e f (omega (arith, printed_few test s))

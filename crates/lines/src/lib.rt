@@ -2,7 +2,7 @@
 #![tactic(auto)]
 
 ghost use Rattle.std.specs.Prelude.{ℕ, min, ◌≡◌, List, ◌++◌};
-ghost use Rattle.text.specs.Output.{put, Holds};
+ghost use Rattle.text.specs.Output.{PutAt, put, Holds};
 ghost use Rattle.tasks.specs.Limits.{max_cores};
 ghost use Rattle.lines.specs.Printed.{header, line_numbers, verdict_line, lines_up_to, printed};
 
@@ -10,7 +10,7 @@ use judge::slack::{SlackVerdict, judge_by_slack};
 use judge::{Verdict, judge};
 use tasks::limits::MAX_CORES;
 use tasks::table::Table;
-use text::output::Output;
+use text::output::{Output, put};
 
 // Which test's lines are printed: verdict's or sharper's. An enum and no closure: what is printed is a definition of the test's name (`printed`).
 #[derive(Clone, Copy)]
@@ -131,4 +131,11 @@ pub fn printed(text: &[u8], test: Test) -> Printed
     let mut output = Output::new();
     put_printed(&mut output, text, test);
     output
+}
+
+// Puts what is printed for a text at the start of a lent array, and answers how many bytes the array then holds.
+pub fn put_printed_at(output: &mut [u8], text: &[u8], test: Test) -> usize
+    ensures { PutAt output.old 0 (printed test text.now) output.new result }
+{
+    put(output, 0, printed(text, test).text().unwrap())
 }

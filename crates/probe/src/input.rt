@@ -68,13 +68,17 @@ fn ended_line(text: &[u8]) -> Option<&[u8]>
 }
 
 // The count and the cores.
+#[tactic(auto, using(text::proofs::WordLaws::not_longer))]
 fn first_line(text: &[u8]) -> Option<FirstLine>
     ensures { result ≡ first_line text.now }
 {
     let line = ended_line(text)?;
-    let fields = line.strip_prefix(b"MACHINE ")?;
+    let word = b"MACHINE ";
+    if !bytes::begins_with(line, word) {
+        return None;
+    }
     let mut numbers = [0u32; 2];
-    if !fill_from_line(fields, &mut numbers, NUMBERS) {
+    if !fill_from_line(&line[word.len()..], &mut numbers, NUMBERS) {
         return None;
     }
     let [count, cores] = numbers;
@@ -153,6 +157,7 @@ fn with_entry(mut machine: Machine, i: usize, entry: EntryLine) -> Machine
 }
 
 // What the machine holds.
+#[tactic(auto, using(text::proofs::WordLaws::not_longer))]
 fn held_line(text: &[u8]) -> Option<HeldLine>
     ensures { result ≡ held_from text.now }
 {
@@ -161,8 +166,11 @@ fn held_line(text: &[u8]) -> Option<HeldLine>
     if bytes::same(line, b"NONE") {
         return Some(HeldLine { held: None, length });
     }
-    let fields = line.strip_prefix(b"HELD ")?;
-    let task = task_fields(fields)?;
+    let word = b"HELD ";
+    if !bytes::begins_with(line, word) {
+        return None;
+    }
+    let task = task_fields(&line[word.len()..])?;
     Some(HeldLine {
         held: Some(task),
         length,

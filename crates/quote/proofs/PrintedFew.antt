@@ -1,4 +1,4 @@
--- What is printed has room. `quote` cites `printed_held`: an output with room for it holds all of it.
+-- What is printed has room. `quote` cites `printed_held`: an unused output with room for it holds all of it.
 use Prim.Native.Nat.{ℕ, min, ◌≤◌, ◌<◌}
 use native.Mathlib.Omega.{arith}
 use mathlib.Core.Bool.{Bool, true, false, cond}
@@ -7,7 +7,7 @@ use mathlib.Core.List.{List}
 use lib.ListN.{length, length-append}
 use Rattle.std.proofs.Common.{Result, Ok, Err}
 use Rattle.text.specs.declared.output.Output.{Output}
-use Rattle.text.specs.Output.{fresh, put, Holds, further_numbers, numbers_line, refused_line}
+use Rattle.text.specs.Output.{put, Holds, further_numbers, numbers_line, refused_line}
 use Rattle.text.proofs.DigitLaws.{text_few}
 use Rattle.text.proofs.Putting.{put_all}
 use Rattle.tasks.specs.Limits.{max_cores}
@@ -41,5 +41,5 @@ printed_few : (s : List ℕ) → length (printed s) ≤ room
 unfolding printed
 printed_few s = after_few (reading s)
 
-pub printed_held : {N : ℕ} {o p : Output N} (s : List ℕ) → room ≤ N → o ≡ fresh N → p ≡ put o (printed s) → Holds (printed s) p
-printed_held s enough e f = put_all (printed s) e f (omega (arith, printed_few s))
+pub printed_held : {N : ℕ} (o : Output N) {p : Output N} (s : List ℕ) → room ≤ length o.bytes → o.used ≡ 0 → p ≡ put o (printed s) → Holds (printed s) p
+printed_held o s enough e f = put_all o (printed s) e f (omega (arith, printed_few s))

@@ -5,4 +5,3 @@ pub mod ReportNumbers
 pub mod FewBytes
 pub mod WordLineLaws
 pub mod WordLineMore
-pub mod Stripped

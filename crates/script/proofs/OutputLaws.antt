@@ -6,7 +6,7 @@ use mathlib.Core.Path.{◌≡◌, ◌∙◌}
 use mathlib.Core.List.{List, [], ◌∷◌, ◌++◌}
 use lib.ListN.{length, length-append}
 use Rattle.text.specs.declared.output.Output.{Output}
-use Rattle.text.specs.Output.{fresh, put, Holds, further_numbers, numbers_line, refused_line}
+use Rattle.text.specs.Output.{put, Holds, further_numbers, numbers_line, refused_line}
 use Rattle.text.proofs.DigitLaws.{text_few}
 use Rattle.text.proofs.Putting.{put_append, put_all}
 use Rattle.tasks.specs.Refusals.{number_of}
@@ -15,9 +15,9 @@ use Rattle.tasks.proofs.OutcomeLaws.{number_small}
 use Rattle.script.specs.Words.{bad_line_word}
 use Rattle.script.specs.Output.{PutsWithin, bad_line, refusal_room}
 
--- a text that was put in a new output which has room for it
-pub within_all : {N : ℕ} (most : ℕ) {o p : Output N} (s : List ℕ) → o ≡ fresh N → PutsWithin most o s p → most ≤ N → Holds s p
-within_all most s new l h = put_all s new l.whole (omega (arith, l.few))
+-- a text that was put in an unused output which has room for it
+pub within_all : {N : ℕ} (most : ℕ) {o p : Output N} (s : List ℕ) → o.used ≡ 0 → PutsWithin most o s p → most ≤ length o.bytes → Holds s p
+within_all most {o} s unused l h = put_all o s unused l.whole (omega (arith, l.few))
 
 -- at most so many bytes are at most more
 pub within_more : {N : ℕ} {most : ℕ} (more : ℕ) {o p : Output N} {s : List ℕ} → most ≤ more → PutsWithin most o s p → PutsWithin more o s p

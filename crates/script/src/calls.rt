@@ -4,7 +4,7 @@ ghost use Rattle.script.specs.Calls.{release_of, task_fields, offer_of, call_of}
 
 use crate::task::task_fields;
 use machine::call::Call;
-use text::bytes::same;
+use text::bytes::{begins_with, same};
 use text::fields::fill_from_line;
 use text::number::{Limits, number_after};
 
@@ -38,7 +38,7 @@ fn offer_fields(fields: &[u8]) -> Option<Call>
 }
 
 // The call of a line, if it is one.
-#[tactic(auto, unfolding(crate::specs::Calls::call_of, crate::specs::Calls::call_with))]
+#[tactic(auto, using(text::proofs::WordLaws::not_longer), unfolding(crate::specs::Calls::call_of, crate::specs::Calls::call_with))]
 pub fn call_line(line: &[u8]) -> Option<Call>
     ensures { result ≡ call_of line.now }
 {
@@ -48,11 +48,13 @@ pub fn call_line(line: &[u8]) -> Option<Call>
     if let Some(number) = number_after(line, b"FINISH ", NUMBERS) {
         return Some(Call::Finish(number));
     }
-    if let Some(fields) = line.strip_prefix(b"RELEASE ") {
-        return release_fields(fields);
+    let release = b"RELEASE ";
+    if begins_with(line, release) {
+        return release_fields(&line[release.len()..]);
     }
-    if let Some(fields) = line.strip_prefix(b"OFFER ") {
-        return offer_fields(fields);
+    let offer = b"OFFER ";
+    if begins_with(line, offer) {
+        return offer_fields(&line[offer.len()..]);
     }
     if same(line, b"COMMIT") {
         return Some(Call::Commit);

@@ -1,6 +1,6 @@
 -- Laws of `same_bytes` and `begins_with`. Others cite: of two texts that are compared up to a place `same_next` and `all_agree`, and by how long they are
 -- `other_length`; that texts that are the same are equal (`same_is`); and that a text begins with a word where as many of its first bytes are the same
--- (`same_begins`), with `longer` and `not_longer`, or by the library's test (`pointwise_begins`).
+-- (`same_begins`), with `longer` and `not_longer`.
 use Prim.Native.Nat.{ℕ, suc, ◌+◌, ◌≤◌, ◌<◌}
 use native.Mathlib.Numerals.{add-one}
 use native.Mathlib.Omega.{arith}
@@ -13,8 +13,6 @@ use lib.ListN.{length, get_or, take, drop, drop_of_length-le}
 use lib.Seq.{drop-cons}
 use Rattle.laws.proofs.CaseSplits.{by_test}
 use Rattle.laws.proofs.Booleans.{and_left, and_right}
-use Rattle.std.specs.Prelude.{◌==◌}
-use Rattle.std.specs.Cmp.Lexicographic.{pointwise}
 use Rattle.text.specs.Words.{same_bytes, begins_with}
 
 pub same_is : (s t : List ℕ) → same_bytes s t ≡ true → s ≡ t
@@ -62,10 +60,3 @@ unfolding same_bytes begins_with
 same_begins [] s h = refl
 same_begins (b ∷ w) [] h = absurd (omega arith)
 same_begins (b ∷ w) (x ∷ s) h = let l : length w ≤ length s = omega arith in rw (same_begins w s l)
-
--- the same, as the library's `strip_prefix` tells it
-pub pointwise_begins : (w s : List ℕ) → pointwise ◌==◌ (take (length w) s) w ≡ begins_with w s
-unfolding begins_with
-pointwise_begins [] s = refl
-pointwise_begins (b ∷ w) [] = refl
-pointwise_begins (b ∷ w) (x ∷ s) = rw (pointwise_begins w s)

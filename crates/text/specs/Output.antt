@@ -14,6 +14,11 @@ overwritten array place text = sets array place text
 unfoldable pub used_after : (size used more : ℕ) → ℕ
 used_after size used more = min (used + more) (max used (size + 1))
 
+-- what putting a text after the first `used` bytes does to an array, and what it answers
+pub record PutAt (before : List ℕ) (used : ℕ) (text after : List ℕ) (r : ℕ) : Type 0 where
+  pub array : after ≡ overwritten before used text
+  pub count : r ≡ used_after (length before) used (length text)
+
 -- an output of N bytes in which nothing was put yet
 unfoldable pub fresh : (N : ℕ) → Output N
 fresh N = record { bytes = replicate N 0; used = 0 }

@@ -2,6 +2,8 @@
 ghost use Rattle.std.specs.Prelude.{◌≡◌};
 ghost use Rattle.text.specs.Number.{is_digit, number_of, number_up_to, number_after};
 
+use crate::bytes::begins_with;
+
 // How many digits a number may have, and the largest that it may be.
 #[derive(Clone, Copy)]
 pub struct Limits {
@@ -65,9 +67,12 @@ pub fn number_of(field: &[u8], limits: Limits) -> Option<u32>
 }
 
 // The number of a line that is a word and one number: the word has its space.
+#[tactic(auto, using(crate::proofs::WordLaws::not_longer), unfolding(crate::specs::Number::number_after))]
 pub fn number_after(line: &[u8], word: &[u8], limits: Limits) -> Option<u32>
     ensures { result ≡ number_after limits.digits limits.largest word.now line.now }
 {
-    let field = line.strip_prefix(word)?;
-    number_of(field, limits)
+    if !begins_with(line, word) {
+        return None;
+    }
+    number_of(&line[word.len()..], limits)
 }
