@@ -5,13 +5,13 @@ ghost use Rattle.tasks.specs.declared.task.Task.{Task};
 ghost use Rattle.tasks.specs.Limits.{max_tasks};
 ghost use Rattle.tasks.specs.Refusals.{refusal};
 ghost use Rattle.tasks.specs.Table.{zero_task};
-ghost use Rattle.tasks.specs.Numbers.{numbered_table};
+ghost use Rattle.tasks.specs.Numbers.{table_from, numbered_table};
 ghost use Rattle.tasks.specs.Check.{first_out_of_range, cores_in_range, checked};
 
 use crate::limits::{MAX_CORES, MAX_TASKS};
 use crate::outcome::Outcome;
 use crate::refusals::Reason;
-use crate::table::{Table, TaskNumbers};
+use crate::table::{PerTask, Table, TaskNumbers};
 use crate::task::Task;
 
 // Whether a number of cores is one of 1 to 16: what number 7 refuses otherwise.
@@ -74,9 +74,36 @@ pub fn check(table: Table, cores: u32) -> Outcome
     check_tasks(|i| table.tasks[i], table.count, cores)
 }
 
-// The same of the table of so many tasks with these numbers. Nothing is copied.
+// The same of the table of so many tasks whose T, C and D stand in three arrays. Nothing is copied.
+pub fn check_arrays(
+    periods: &PerTask,
+    budgets: &PerTask,
+    deadlines: &PerTask,
+    count: usize,
+    cores: u32,
+) -> Outcome
+    ensures { result ≡ checked (table_from periods.now budgets.now deadlines.now count) cores }
+{
+    check_tasks(
+        |i| Task {
+            period: periods[i],
+            budget: budgets[i],
+            deadline: deadlines[i],
+        },
+        count,
+        cores,
+    )
+}
+
+// The same of the table of so many tasks with these numbers, which are lent as one value.
 pub fn check_numbers(numbers: &TaskNumbers, count: usize, cores: u32) -> Outcome
     ensures { result ≡ checked (numbered_table numbers.now count) cores }
 {
-    check_tasks(|i| numbers.at(i), count, cores)
+    check_arrays(
+        &numbers.periods,
+        &numbers.budgets,
+        &numbers.deadlines,
+        count,
+        cores,
+    )
 }
