@@ -1,16 +1,16 @@
 // Whether the slack test admits a table, by which offers and the entry for a host go: document 02, changes 6 and 10.
 ghost use Rattle.std.specs.Prelude.{◌≤◌, ◌≡◌};
 ghost use Rattle.tasks.specs.Limits.{max_cores};
-ghost use Rattle.tasks.specs.Numbers.{numbered_table};
+ghost use Rattle.tasks.specs.Numbers.{table_from, numbered_table};
 ghost use Rattle.edzl.specs.Slack.{slack_admits};
 ghost use Rattle.judge.specs.SlackJudge.{admission_values_of, admission};
 
 use crate::numbers::{Numbers, numbers_of};
-use tasks::check::{check, check_numbers};
+use tasks::check::{check, check_arrays};
 use tasks::limits::MAX_TASKS;
 use tasks::outcome::Outcome;
 use tasks::refusals::Refusal;
-use tasks::table::{Table, TaskNumbers};
+use tasks::table::{PerTask, Table, TaskNumbers};
 
 impl<'a> Numbers<'a> {
     ghost use Rattle.judge.specs.Numbers.{set_of};
@@ -54,11 +54,36 @@ pub fn admit(table: Table, cores: u32) -> Result<bool, Refusal>
     Ok(Numbers::of(&numbers, table.count).admits(cores))
 }
 
-// The same of the table of so many tasks with these numbers. Nothing is copied.
+// The same of the table of so many tasks whose T, C and D stand in three arrays. Nothing is copied.
 #[tactic(auto, using(tasks::proofs::Checked::passes, crate::proofs::Listed::ranges), unfolding(crate::specs::SlackJudge::admission, crate::specs::SlackJudge::slack_judged, crate::specs::SlackJudge::slack_judged_after, crate::specs::SlackJudge::refused_by_slack, crate::specs::SlackJudge::admission_values_of))]
+pub fn admit_arrays(
+    periods: &PerTask,
+    budgets: &PerTask,
+    deadlines: &PerTask,
+    count: usize,
+    cores: u32,
+) -> Result<bool, Refusal>
+    ensures { admission_values_of result ≡ admission (table_from periods.now budgets.now deadlines.now count) cores }
+{
+    check_arrays(periods, budgets, deadlines, count, cores)?;
+    let numbers = Numbers {
+        periods,
+        budgets,
+        deadlines,
+        count,
+    };
+    Ok(numbers.admits(cores))
+}
+
+// The same of the table of so many tasks with these numbers, which are lent as one value.
 pub fn admit_numbers(numbers: &TaskNumbers, count: usize, cores: u32) -> Result<bool, Refusal>
     ensures { admission_values_of result ≡ admission (numbered_table numbers.now count) cores }
 {
-    check_numbers(numbers, count, cores)?;
-    Ok(Numbers::of(numbers, count).admits(cores))
+    admit_arrays(
+        &numbers.periods,
+        &numbers.budgets,
+        &numbers.deadlines,
+        count,
+        cores,
+    )
 }
