@@ -1,5 +1,5 @@
--- What the answer of `read_numbers` says of the reading. Others cite `counted_refused`, of a refusal, and `counted_read`, of a table that was read
--- (`CountedRead`): its numbers make it again.
+-- What the answer of `read_arrays` or `read_numbers` says of the reading. Others cite `counted_refused`, of a refusal, and `counted_read`, of a table
+-- that was read (`CountedRead`): its numbers make it again.
 use Prim.Native.Nat.{ℕ}
 use mathlib.Core.Path.{◌≡◌, sym, ap}
 use mathlib.Core.List.{List}

@@ -1,5 +1,5 @@
 -- What reading a text into three lists gives. Others cite: what the answer r and the entries ts say at each refusal before the value lines
--- (`too_long`, `bad_names`) and after them (`by_lines`, with `named`); and what they say of the reading w: `answer_is`, `numbers_are`, `kept`, `cleared`, `table_is` and
+-- (`too_long`, `bad_names`) and after them (`by_lines`, with `named`); and what they say of the reading w: `answer_is`, `kept`, `cleared`, `table_is` and
 -- `refusal_is`.
 use Prim.Native.Nat.{ℕ, ◌≤◌, ◌<◌}
 use mathlib.Core.Path.{◌≡◌, sym, ap, ◌∙◌}
@@ -19,8 +19,7 @@ use Rattle.tasks.specs.declared.refusals.Reason.TheVariants.{TextTooLong, BadNam
 use Rattle.tasks.specs.Limits.{max_tasks, max_text_length}
 use Rattle.tasks.specs.Refusals.{refusal}
 use Rattle.tasks.specs.Table.{empty_table}
-use Rattle.tasks.specs.declared.table.TaskNumbers.{TaskNumbers}
-use Rattle.tasks.specs.Numbers.{numbers_of, periods_of, budgets_of, deadlines_of, tasks_from, table_from}
+use Rattle.tasks.specs.Numbers.{periods_of, budgets_of, deadlines_of, tasks_from, table_from}
 use Rattle.tasks.proofs.Numbers.{Long, periods_from, budgets_from, deadlines_from}
 use Rattle.reader.specs.declared.names.NamesLine.{NamesLine}
 use Rattle.reader.specs.declared.Reading.{Reading}
@@ -62,23 +61,11 @@ unfolding counted_values_of counted_in reading_from refused empty_table
 answer_is w (Ok n) ts e = rw (← e)
 answer_is w (Err why) ts e = rw (← e)
 
-abbrev the_numbers : (periods budgets deadlines : List ℕ) → TaskNumbers
-the_numbers periods budgets deadlines = record { periods = periods; budgets = budgets; deadlines = deadlines }
-
 -- three lists that have the numbers of a reading's table
 pub record Numbers (w : Reading) (ps bs ds : List ℕ) : Type 0 where
   pub periods : ps ≡ periods_of w.table.tasks
   pub budgets : bs ≡ budgets_of w.table.tasks
   pub deadlines : ds ≡ deadlines_of w.table.tasks
-
--- numbers of equal lists
-same_lists :
-    (ps bs ds ps' bs' ds' : List ℕ) → ps ≡ ps' → bs ≡ bs' → ds ≡ ds'
-    → the_numbers ps bs ds ≡ the_numbers ps' bs' ds'
-same_lists ps bs ds ps' bs' ds' p b d = rw (p, b, d)
-
-pub numbers_are : (w : Reading) (n : TaskNumbers) → Numbers w n.periods n.budgets n.deadlines → n ≡ numbers_of w.table.tasks
-numbers_are w n is = same_lists n.periods n.budgets n.deadlines _ _ _ is.periods is.budgets is.deadlines
 
 numbers_from : (w : Reading) (ps bs ds : List ℕ) → Long ps bs ds → tasks_from ps bs ds ≡ w.table.tasks → Numbers w ps bs ds
 numbers_from w ps bs ds long e =

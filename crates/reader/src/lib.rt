@@ -24,7 +24,12 @@ pub fn read(text: &[u8]) -> Reading
     ensures { result ≡ reading text.now }
 {
     let mut numbers = TaskNumbers::zero();
-    match numbers::fill(text, &mut numbers) {
+    match numbers::fill(
+        text,
+        &mut numbers.periods,
+        &mut numbers.budgets,
+        &mut numbers.deadlines,
+    ) {
         Ok(count) => Reading {
             table: numbers.table(count),
             outcome: Ok(()),

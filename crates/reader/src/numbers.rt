@@ -1,8 +1,8 @@
-// A table's numbers from text, into flat arrays that are lent: document 01, "The table as text".
+// A table's numbers from text, into three arrays that are lent: document 01, "The table as text".
 ghost use Rattle.std.specs.Prelude.{◌≡◌, true, length};
 ghost use Rattle.tasks.specs.Limits.{max_tasks};
 ghost use Rattle.tasks.specs.Table.{empty_table};
-ghost use Rattle.tasks.specs.Numbers.{zero_numbers, numbers_of, numbered_tasks};
+ghost use Rattle.tasks.specs.Numbers.{periods_of, budgets_of, deadlines_of, tasks_from, numbers_of};
 ghost use Rattle.reader.specs.Names.{each_named};
 ghost use Rattle.reader.specs.Reading.{reading, value_lines};
 ghost use Rattle.reader.specs.Parts.{reading_from};
@@ -12,14 +12,32 @@ use crate::names::{Columns, NamesLine};
 use crate::{names, values};
 use tasks::limits::{MAX_TASKS, MAX_TEXT_LENGTH};
 use tasks::refusals::{Reason, Refusal};
-use tasks::table::TaskNumbers;
+use tasks::table::{PerTask, TaskNumbers};
 
-// Value lines in turn, into numbers that are 0, and how many there are: each line's reader gets the part of the text after the line before.
-fn value_lines(text: &[u8], columns: Columns, numbers: &mut TaskNumbers) -> Result<usize, Refusal>
+// Makes all numbers 0, as those of the empty table are.
+#[tactic(auto, unfolding(tasks::specs::Table::empty_table, tasks::specs::Table::zero_task, tasks::specs::Numbers::periods_of, tasks::specs::Numbers::budgets_of, tasks::specs::Numbers::deadlines_of))]
+fn clear(periods: &mut PerTask, budgets: &mut PerTask, deadlines: &mut PerTask)
+    ensures { let none = empty_table.tasks in
+        (periods.new ≡ periods_of none) × (budgets.new ≡ budgets_of none) × (deadlines.new ≡ deadlines_of none) }
+{
+    *periods = [0; MAX_TASKS];
+    *budgets = [0; MAX_TASKS];
+    *deadlines = [0; MAX_TASKS];
+}
+
+// Value lines in turn, into arrays of zeros, and how many there are: each line's reader gets the part of the text after the line before.
+fn value_lines(
+    text: &[u8],
+    columns: Columns,
+    periods: &mut PerTask,
+    budgets: &mut PerTask,
+    deadlines: &mut PerTask,
+) -> Result<usize, Refusal>
     requires named { each_named columns ≡ true }
-    requires zeros { numbers.old ≡ zero_numbers }
-    ensures lines_read { reading_from result (numbered_tasks numbers.new) ≡ value_lines columns max_tasks empty_table text.now }
-    ensures long { (length numbers.new.periods ≡ max_tasks) × (length numbers.new.budgets ≡ max_tasks) × (length numbers.new.deadlines ≡ max_tasks) }
+    requires zeros { let none = empty_table.tasks in
+        (periods.old ≡ periods_of none) × (budgets.old ≡ budgets_of none) × (deadlines.old ≡ deadlines_of none) }
+    ensures lines_read { reading_from result (tasks_from periods.new budgets.new deadlines.new) ≡ value_lines columns max_tasks empty_table text.now }
+    ensures long { (length periods.new ≡ max_tasks) × (length budgets.new ≡ max_tasks) × (length deadlines.new ≡ max_tasks) }
 {
     let mut count: usize = 0;
     let mut rest = text;
@@ -36,9 +54,9 @@ fn value_lines(text: &[u8], columns: Columns, numbers: &mut TaskNumbers) -> Resu
         if !task.in_range() {
             return Err(Reason::TaskOutOfRange.at(place));
         }
-        numbers.periods[count] = task.period;
-        numbers.budgets[count] = task.budget;
-        numbers.deadlines[count] = task.deadline;
+        periods[count] = task.period;
+        budgets[count] = task.budget;
+        deadlines[count] = task.deadline;
         count += 1;
         rest = &rest[line.length + 1..];
     }
@@ -48,11 +66,17 @@ fn value_lines(text: &[u8], columns: Columns, numbers: &mut TaskNumbers) -> Resu
     Ok(count)
 }
 
-// Reads the table of a text into numbers that are 0: how many tasks it has. Where reading is refused they keep the numbers of the lines before.
-pub(crate) fn fill(text: &[u8], numbers: &mut TaskNumbers) -> Result<usize, Refusal>
-    requires zeros { numbers.old ≡ zero_numbers }
-    ensures text_read { reading_from result (numbered_tasks numbers.new) ≡ reading text.now }
-    ensures long { (length numbers.new.periods ≡ max_tasks) × (length numbers.new.budgets ≡ max_tasks) × (length numbers.new.deadlines ≡ max_tasks) }
+// Reads the table of a text into arrays of zeros: how many tasks it has. Where reading is refused they keep the numbers of the lines before.
+pub(crate) fn fill(
+    text: &[u8],
+    periods: &mut PerTask,
+    budgets: &mut PerTask,
+    deadlines: &mut PerTask,
+) -> Result<usize, Refusal>
+    requires zeros { let none = empty_table.tasks in
+        (periods.old ≡ periods_of none) × (budgets.old ≡ budgets_of none) × (deadlines.old ≡ deadlines_of none) }
+    ensures text_read { reading_from result (tasks_from periods.new budgets.new deadlines.new) ≡ reading text.now }
+    ensures long { (length periods.new ≡ max_tasks) × (length budgets.new ≡ max_tasks) × (length deadlines.new ≡ max_tasks) }
 {
     if MAX_TEXT_LENGTH < text.len() {
         return Err(Reason::TextTooLong.at(0));
@@ -60,20 +84,40 @@ pub(crate) fn fill(text: &[u8], numbers: &mut TaskNumbers) -> Result<usize, Refu
     let Some(NamesLine { columns, length }) = names::names_line(text) else {
         return Err(Reason::BadNamesLine.at(0));
     };
-    value_lines(&text[length..], columns, numbers)
+    value_lines(&text[length..], columns, periods, budgets, deadlines)
 }
 
-// Reads the numbers of a text's table: T, C and D of each task by its index, and 0 past the last one. Where reading is refused all are 0.
+// Reads the numbers of a text's table into three arrays: T, C and D of each task by its index, and 0 past the last one. Where reading is refused all are 0.
 // It answers how many tasks the table has.
+pub fn read_arrays(
+    text: &[u8],
+    periods: &mut PerTask,
+    budgets: &mut PerTask,
+    deadlines: &mut PerTask,
+) -> Result<usize, Refusal>
+    ensures counted { counted_values_of result ≡ counted_in (reading text.now) }
+    ensures periods { periods.new ≡ periods_of (reading text.now).table.tasks }
+    ensures budgets { budgets.new ≡ budgets_of (reading text.now).table.tasks }
+    ensures deadlines { deadlines.new ≡ deadlines_of (reading text.now).table.tasks }
+{
+    clear(periods, budgets, deadlines);
+    let counted = fill(text, periods, budgets, deadlines);
+    let refused = counted.is_err();
+    if refused {
+        clear(periods, budgets, deadlines);
+    }
+    counted
+}
+
+// The same into the arrays of one value.
 pub fn read_numbers(text: &[u8], numbers: &mut TaskNumbers) -> Result<usize, Refusal>
     ensures counted { counted_values_of result ≡ counted_in (reading text.now) }
     ensures filled { numbers.new ≡ numbers_of (reading text.now).table.tasks }
 {
-    *numbers = TaskNumbers::zero();
-    let counted = fill(text, numbers);
-    let refused = counted.is_err();
-    if refused {
-        *numbers = TaskNumbers::zero();
-    }
-    counted
+    read_arrays(
+        text,
+        &mut numbers.periods,
+        &mut numbers.budgets,
+        &mut numbers.deadlines,
+    )
 }

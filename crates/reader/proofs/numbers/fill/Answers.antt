@@ -1,27 +1,8 @@
 -- The refusals 1 and 2, and then the value lines over the rest of the text.
-use Rattle.std.proofs.Common.{◌≡◌, sym, ap, ◌∙◌, length}
-use Rattle.tasks.specs.declared.table.TaskNumbers.{TaskNumbers}
-use Rattle.tasks.specs.Limits.{max_tasks}
-use Rattle.tasks.specs.Numbers.{zero_numbers}
+use Rattle.std.proofs.Common.{sym, ◌∙◌}
 use Rattle.reader.proofs.NamesLine.{names_read}
 use Rattle.reader.proofs.NumbersRead.{too_long, bad_names, by_lines, named}
 use Rattle.reader.proofs.numbers.fill.Goals as goal
-
--- Where no line was read the numbers are the zeros that they were.
-zeros_long :
-    (n : TaskNumbers) → n ≡ zero_numbers → (length n.periods ≡ max_tasks) × (length n.budgets ≡ max_tasks) × (length n.deadlines ≡ max_tasks)
-unfolding zero_numbers
-zeros_long n z = (
-  ap (λ (n : TaskNumbers). length n.periods) z,
-  ap (λ (n : TaskNumbers). length n.budgets) z,
-  ap (λ (n : TaskNumbers). length n.deadlines) z,
-)
-
-pub returns-then-text-gt-MAX_TEXT_LENGTH-clause-long : goal.returns-then-text-gt-MAX_TEXT_LENGTH-clause-long
-returns-then-text-gt-MAX_TEXT_LENGTH-clause-long c = zeros_long _ c.requires.zeros
-
-pub returns-in_default-clause-long : goal.returns-in_default-clause-long
-returns-in_default-clause-long c = zeros_long _ c.requires.zeros
 
 pub returns-then-text-gt-MAX_TEXT_LENGTH-clause-text_read : goal.returns-then-text-gt-MAX_TEXT_LENGTH-clause-text_read
 returns-then-text-gt-MAX_TEXT_LENGTH-clause-text_read c = rw c.at.ensures (too_long _ _ c.if-text-gt-MAX_TEXT_LENGTH.true)

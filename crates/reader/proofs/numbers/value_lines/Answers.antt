@@ -1,8 +1,5 @@
 -- Each way out settles the reading, by what is left of the text where it is taken.
-use Rattle.tasks.specs.declared.table.TaskNumbers.{TaskNumbers}
-use Rattle.tasks.specs.Table.{zero_task, empty_table}
-use Rattle.tasks.specs.Numbers.{periods_of, budgets_of, deadlines_of, zero_numbers}
-use Rattle.std.proofs.Common.{sym, ap, ◌∙◌, ◌+◌, ◌<◌, length, arith}
+use Rattle.std.proofs.Common.{sym, ◌∙◌, ◌+◌, ◌<◌, length, arith}
 use borrow.Author.Tests.{eqb-true, eqb-false}
 use Rattle.laws.proofs.Parts.{from_length}
 use Rattle.reader.proofs.ValueLine.{line_read, line_broken}
@@ -10,17 +7,7 @@ use Rattle.reader.proofs.ValueLines.{begin, no_task, finish, too_many, bad_line,
 use Rattle.reader.proofs.numbers.value_lines.Goals as goal
 
 pub loop-rest-init : goal.loop-rest-init
-unfolding zero_numbers empty_table zero_task periods_of budgets_of deadlines_of
-loop-rest-init c =
-    let z = c.requires.zeros in
-    record {
-      few = omega arith;
-      on =
-          begin _ _ _ _ _
-          (ap (λ (n : TaskNumbers). n.periods) z)
-          (ap (λ (n : TaskNumbers). n.budgets) z)
-          (ap (λ (n : TaskNumbers). n.deadlines) z);
-    }
+loop-rest-init c = let z = c.requires.zeros in record { few = omega arith; on = begin _ _ _ _ _ z.0 z.1 z.2 }
 
 pub returns-then-count-ge-MAX_TASKS-clause-lines_read : goal.returns-then-count-ge-MAX_TASKS-clause-lines_read
 returns-then-count-ge-MAX_TASKS-clause-lines_read c =

@@ -9,7 +9,7 @@ use Rattle.reader.proofs.numbers.value_lines.Given as goal
 abbrev pub invariant-loop-rest : goal.invariant-loop-rest
 invariant-loop-rest l = record {
   few : length l.rest ≤ length l.text;
-  on : ReadingOn l.columns (value_lines l.columns max_tasks empty_table l.text) l.numbers.periods l.numbers.budgets l.numbers.deadlines l.count l.rest;
+  on : ReadingOn l.columns (value_lines l.columns max_tasks empty_table l.text) l.periods l.budgets l.deadlines l.count l.rest;
 }
 
 abbrev pub decreases-loop-rest : goal.decreases-loop-rest
