@@ -18,13 +18,13 @@ pub returns-in_err-count : goal.returns-in_err-count
 unfolding host_answer answer_after number_for
 returns-in_err-count c =
     let p = err_from_is_err_and c.from_residual.result c.from_residual.ensures.1 in
-    rw (p.1, p.2, counted_refused _ _ c.read_numbers.ensures.counted _ c.in_err-count.was)
+    rw (p.1, p.2, counted_refused _ _ c.read_arrays.ensures.counted _ c.in_err-count.was)
 
 pub returns : goal.returns
 unfolding host_answer answer_after
 returns c =
-    let r = c.read_numbers.ensures in
+    let r = c.read_arrays.ensures in
     let was_read = counted_read _ _ r.counted _ c.in_ok-count.was in
-    let same_table : admission_values_of c.admit_numbers.result ≡ admission (reading c.args.text.now).table c.args.cores =
-    c.admit_numbers.ensures ∙ rw (r.filled, was_read.again) in
-    rw (number_is c.admit_numbers.result, same_table, was_read.outcome)
+    let same_table : admission_values_of c.admit_arrays.result ≡ admission (reading c.args.text.now).table c.args.cores =
+    c.admit_arrays.ensures ∙ rw (r.periods, r.budgets, r.deadlines, was_read.again) in
+    rw (number_is c.admit_arrays.result, same_table, was_read.outcome)
