@@ -12,7 +12,6 @@ use Rattle.text.specs.Output.{put, further_numbers, numbers_line, refused_word}
 use Rattle.text.proofs.DigitLaws.{text_few}
 use Rattle.text.proofs.Putting.{put_append}
 use Rattle.tasks.specs.Refusals.{number_of}
-use Rattle.tasks.proofs.OutcomeLaws.{number_small}
 use Rattle.script.specs.Output.{PutsWithin}
 use Rattle.auditing.specs.Audit.{accepted_log, offending_log, refused_log, audit_values_of}
 use Rattle.auditing.specs.declared.auditor.LogRefusal.{LogRefusal}
@@ -35,11 +34,12 @@ module _ {N : ℕ} {a b : Output N} where
         record { whole = q ∙ rw p (put_append a offends_word _); few = simp length-append (omega (arith, text_few 19 line (omega arith))) }
 
     pub refused_put :
-        (why : LogRefusal) (n : ℕ) → why.place < 2 ^ 64 → n ≡ number_of why.reason → b ≡ put a refused_word
+        (why : LogRefusal) (n : ℕ) → n < 2 ^ 32 → why.place < 2 ^ 64 → n ≡ number_of why.reason → b ≡ put a refused_word
         → c ≡ put b (numbers_line (n ∷ why.place ∷ [])) → PutsWithin printed_room a (audit_line (audit_values_of (Err why))) c
     unfolding audit_line outcome_line refusal_line audit_values_of refused_log numbers_line further_numbers
-    refused_put why n k e p q =
-        record {
-          whole = rw e at q ∙ rw p (put_append a refused_word _);
-          few = simp length-append (omega (arith, text_few 9 (number_of why.reason) (omega (arith, number_small why.reason)), text_few 19 why.place (omega arith)));
-        }
+    refused_put why n h k e p q =
+        rw (← e)
+        (record {
+          whole = q ∙ rw p (put_append a refused_word _);
+          few = simp length-append (omega (arith, text_few 9 n (omega arith), text_few 19 why.place (omega arith)));
+        })

@@ -1,6 +1,6 @@
 -- The logs of our own machine, from a fresh one on whole budgets with k = m and no commit, are accepted: `own_logs_accepted`. The machine of the log and that
 -- of the audit are played side by side (Beside.antt), call by call.
-use Rattle.std.proofs.Common.{Ok, Err, Some}
+use Rattle.std.proofs.Common.{Ok, Some}
 use Prim.Native.Nat.{ℕ, ◌-◌, ◌<◌}
 use mathlib.Core.Path.{◌≡◌, refl, sym, ap, ◌∙◌, subst}
 use mathlib.Core.Bool.{Bool, true, false}
@@ -21,7 +21,6 @@ use Rattle.machine.specs.Machine.{job_at, with_job, holding}
 use Rattle.machine.specs.Slot.{no_report, slot_report}
 use Rattle.machine.specs.Sound.{sound}
 use Rattle.tasks.specs.declared.refusals.Refusal.{Refusal}
-use Rattle.tasks.proofs.OutcomeLaws.{Not0}
 use Rattle.machine.specs.Calls.{done, refuse, start_after, start, slot_cores_in_range, slot, with_joined, step}
 use Rattle.machine.specs.Play.{Entry, play}
 use Rattle.machine.specs.declared.machine.Machine.{Machine}
@@ -30,7 +29,7 @@ use Rattle.machine.specs.declared.call.Call.TheVariants.{Release, Finish, Slot, 
 use Rattle.machine.specs.declared.answer.Answer.{Answer}
 use Rattle.machine.proofs.RunnersPlaced.{runners_inside}
 use Rattle.machine.proofs.CallCases.{ReleaseTaken, FinishTaken, SlotTaken, OfferTaken, CommitTaken}
-use Rattle.machine.proofs.CallCases.{refused, accepted, slot_answer, after_release, after_finish, by_call}
+use Rattle.machine.proofs.CallCases.{RefusedBy, refused, accepted, slot_answer, after_release, after_finish, by_call}
 use Rattle.machine.proofs.SoundKept.{call_keeps, start_outcome, start_sound}
 use Rattle.auditing.specs.Audit.{audited_after, audited}
 use Rattle.auditing.specs.OwnLog.{Since, nothing_since, since_call, line_by, own_lines, own_log, is_loggable, all_loggable, OwnLogsAccepted}
@@ -74,7 +73,7 @@ module _
     still_sound : (call : Call) (answer : Answer) → answer ≡ step r call → sound answer.machine ≡ true
     still_sound call answer is = rw is (call_keeps r b.real.is_sound call).is_sound
 
-    on_refusal : (call : Call) (why : Refusal) → (sound r ≡ true → Not0 (Err why)) → Goal call (refused r why)
+    on_refusal : (call : Call) (why : Refusal) → RefusedBy r why → Goal call (refused r why)
     unfolding all_loggable own_lines is_done
     on_refusal call why told is loggable = next r a s b loggable
 

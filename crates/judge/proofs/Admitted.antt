@@ -1,4 +1,4 @@
--- What an admission says of the table. Others cite: `admission_outcome` and `admission_not_0`, of a refusal; `AdmissionIs` with
+-- What an admission says of the table. Others cite: `admission_outcome` and `admission_numbered`, of a refusal; `AdmissionIs` with
 -- `judged_admission`, of one that was carried out; `SlackAdmits` with `admission_means`, of a table that is admitted; and `window_admitted`, that what the
 -- window test admits is admitted.
 use Prim.Native.Nat.{ℕ}
@@ -8,8 +8,8 @@ use Rattle.std.proofs.Common.{Ok}
 use Rattle.laws.proofs.CaseSplits.{not_both}
 use Rattle.tasks.specs.declared.table.Table.{Table}
 use Rattle.tasks.specs.Check.{checked}
-use Rattle.tasks.proofs.Checked.{checked_not_0}
-use Rattle.tasks.proofs.OutcomeLaws.{by_outcome, Not0}
+use Rattle.tasks.proofs.Checked.{checked_numbered}
+use Rattle.tasks.proofs.OutcomeLaws.{by_outcome, Numbered}
 use Rattle.tasks.proofs.TaskSetLaws.{well_checked}
 use Rattle.edzl.specs.Slack.{slack_admits}
 use Rattle.edzl.proofs.SlackRounds.{window_admits}
@@ -35,8 +35,8 @@ module _ (t : Table) (m : ℕ) where
   unfolding admission
   admission_outcome = slack_outcome t m
 
-  pub admission_not_0 : Not0 (admission t m).outcome
-  admission_not_0 = rw admission_outcome (checked_not_0 t m)
+  pub admission_numbered : Numbered (admission t m).outcome
+  admission_numbered = rw admission_outcome (checked_numbered t m)
 
   pub judged_admission : (admits : Bool) → admission_values_of (Ok admits) ≡ admission t m → AdmissionIs t m admits
   unfolding admission_values_of

@@ -3,7 +3,7 @@
 use Prim.Native.Nat.{ℕ, zero, suc, ◌*◌, ◌≤◌, ◌<◌, min}
 use native.Mathlib.Omega.{arith}
 use mathlib.Core.Bool.{Bool, true, false, cond}
-use mathlib.Core.Path.{◌≡◌}
+use mathlib.Core.Path.{◌≡◌, refl}
 use mathlib.Core.List.{List, [], ◌∷◌}
 use lib.ListN.{length, length-append}
 use Rattle.text.specs.declared.output.Output.{Output}
@@ -14,9 +14,10 @@ use Rattle.tasks.specs.declared.table.Table.{Table}
 use Rattle.std.proofs.Common.{Ok, Err}
 use Rattle.tasks.specs.Refusals.{number_of}
 use Rattle.tasks.specs.Outcome.{Outcome}
-use Rattle.tasks.proofs.OutcomeLaws.{number_small}
+use Rattle.tasks.proofs.Small.{Below}
 use Rattle.tasks.specs.Limits.{max_cores}
 use Rattle.reader.specs.Reading.{reading}
+use Rattle.reader.proofs.Small.{reading_below}
 use Rattle.judge.specs.Judge.{judged}
 use Rattle.judge.specs.SlackJudge.{slack_judged}
 use Rattle.judge.proofs.Outcome.{count_small}
@@ -49,17 +50,15 @@ unfolding lines_up_to
 lines_few line most few zero h = omega arith
 lines_few line most few (suc n) h = simp length-append (omega (arith, lines_few line most few n (omega arith), few (suc n) h))
 
-after_few : (test : Test) (o : Outcome) (t : Table) → length (printed_after test o t) ≤ room
+after_few : (test : Test) (o : Outcome) (t : Table) → Below 6 o → length (printed_after test o t) ≤ room
 unfolding printed_after refused_line numbers_line further_numbers
-after_few test (Ok _) t =
+after_few test (Ok _) t b =
     simp length-append (omega (arith, header_few test, lines_few (verdict_line test t) 8 (line_few test t) (min max_cores t.count) (omega arith)))
-after_few test (Err why) t =
-    let small = number_small why.reason in
-    simp length-append (omega (arith, text_few 1 (number_of why.reason) (omega arith)))
+after_few test (Err why) t b = simp length-append (omega (arith, text_few 0 (number_of why.reason) (omega (arith, b why refl))))
 
 printed_few : (test : Test) (s : List ℕ) → length (printed test s) ≤ room
 unfolding printed
-printed_few test s = after_few test (reading s).outcome (reading s).table
+printed_few test s = after_few test (reading s).outcome (reading s).table (reading_below s)
 
 pub printed_held :
     {N : ℕ} (o : Output N) {p : Output N} (test : Test) (s : List ℕ) → room ≤ length o.bytes → o.used ≡ 0 → p ≡ put o (printed test s)

@@ -1,7 +1,7 @@
 -- A call by what it came to: refused, with the machine as it was, by number 0 only if that is unsound, or carried out, with what was found true first.
 -- Others cite `by_call` and the records of what an accepted call found.
 use Rattle.std.proofs.Common.{Ok, Err, Option, Some, None}
-use Prim.Native.Nat.{ℕ, ◌-◌, ◌≤◌}
+use Prim.Native.Nat.{ℕ, ◌-◌, ◌≤◌, ◌<◌}
 use mathlib.Core.Path.{◌≡◌, refl}
 use mathlib.Core.Bool.{Bool, true, false, cond, not}
 use mathlib.Core.List.{List}
@@ -16,7 +16,7 @@ use Rattle.tasks.specs.declared.refusals.Refusal.{Refusal}
 use Rattle.tasks.specs.declared.refusals.Reason.{Reason}
 use Rattle.tasks.specs.declared.refusals.Reason.TheVariants.{UnsoundMachine, NoSuchTask, ReleasedTooSoon, JobNotOpen, SlotCoresOutOfRange, NeedOutOfRange, NoHeldTask}
 use Rattle.laws.proofs.CaseSplits.{not_both, by_cond}
-use Rattle.tasks.proofs.OutcomeLaws.{Not0, refused_not_0}
+use Rattle.tasks.proofs.OutcomeLaws.{Numbered}
 use Rattle.job.specs.Job.{closed_job, released_job}
 use Rattle.job.proofs.NeedLaws.{NeedRange, need_range}
 use Rattle.machine.specs.Machine.{task_at, job_at, with_job, holding}
@@ -31,7 +31,7 @@ use Rattle.machine.specs.declared.call.Call.{Call}
 use Rattle.machine.specs.declared.call.Call.TheVariants.{Release, Finish, Slot, Offer, Commit}
 use Rattle.machine.specs.declared.answer.Answer.{Answer}
 use Rattle.machine.specs.declared.answer.Report.{Report}
-use Rattle.machine.proofs.OfferLaws.{OfferFits, offer_not_0}
+use Rattle.machine.proofs.OfferLaws.{OfferFits, offer_numbered}
 use Rattle.machine.proofs.SoundLaws.{sound_free, held_fits}
 use Rattle.machine.proofs.TaskNumbers.{KnownTask, known_task}
 use Rattle.machine.proofs.SlotStep.{LegalSlot}
@@ -54,6 +54,11 @@ after_release m number need = with_job m (number - 1) (released_job (task_at m (
 
 unfoldable pub after_finish : Machine → (number : ℕ) → Machine
 after_finish m number = with_job m (number - 1) (closed_job (job_at m (number - 1)))
+
+-- a refusal's number: 0 only on an unsound machine, and two digits at most
+pub record RefusedBy (m : Machine) (why : Refusal) : Type 0 where
+  pub some : sound m ≡ true → 1 ≤ number_of why.reason
+  pub small : number_of why.reason < 100
 
 -- what an accepted release, finish, slot, offer and commit found
 pub record ReleaseTaken (m : Machine) (number need : ℕ) : Type 0 where
@@ -84,35 +89,40 @@ pub record CommitTaken (m : Machine) (t : Task) : Type 0 where
 module _
     (m : Machine)
     (P : Call → Answer → Type 0)
-    (on_refusal : (call : Call) (why : Refusal) → (sound m ≡ true → Not0 (Err why)) → P call (refused m why))
+    (on_refusal : (call : Call) (why : Refusal) → RefusedBy m why → P call (refused m why))
     (on_release : (number need : ℕ) → ReleaseTaken m number need → P (Release number need) (accepted (after_release m number need) no_report))
     (on_finish : (number : ℕ) → FinishTaken m number → P (Finish number) (accepted (after_finish m number) no_report))
     (on_slot : (k : ℕ) (ran : List Bool) (assigned : List ℕ) → SlotTaken m k ran assigned → P (Slot k) (slot_answer m ran assigned))
     (on_offer : (t : Task) → OfferTaken m t → P (Offer t) (accepted (holding m (Some t)) no_report))
     (on_commit : (t : Task) → CommitTaken m t → P Commit (accepted (with_joined m t) no_report))
   where
+    -- by a number that is not 0
+    by_number : (why : Refusal) → (1 ≤ number_of why.reason) × (number_of why.reason < 100) → RefusedBy m why
+    by_number why h = record { some = λ ok. h.0; small = h.1 }
+
     -- past the test that refuses an unsound machine by 0
     past_0 : (call : Call) {answer : Answer} → (sound m ≡ true → P call answer) → P call (cond (not (sound m)) (refused m (refusal UnsoundMachine 0)) answer)
     past_0 call on =
-        by_cond (P call) (not (sound m)) (λ e. on_refusal call (refusal UnsoundMachine 0) (λ ok. not_both _ ok (not-true _ e)))
+        by_cond (P call) (not (sound m))
+        (λ e. on_refusal call (refusal UnsoundMachine 0) (record { some = λ ok. not_both _ ok (not-true _ e); small = omega arith }))
         (λ e. on (not-false _ e))
 
     -- past a test that refuses the call for this reason
     past :
-        (call : Call) (t : Bool) (reason : Reason) {answer : Answer} → 1 ≤ number_of reason → (t ≡ false → P call answer)
+        (call : Call) (t : Bool) (reason : Reason) {answer : Answer} → (1 ≤ number_of reason) × (number_of reason < 100) → (t ≡ false → P call answer)
         → P call (cond t (refused m (refusal reason 0)) answer)
-    past call t reason some on = by_cond (P call) t (λ e. on_refusal call (refusal reason 0) (λ ok. refused_not_0 (refusal reason 0) some)) on
+    past call t reason h on = by_cond (P call) t (λ e. on_refusal call (refusal reason 0) (by_number (refusal reason 0) h)) on
 
     -- an offer, after its checks
-    by_offer : (t : Task) (checks : Outcome) → Not0 checks → (checks ≡ Ok tt → OfferTaken m t) → P (Offer t) (offer_after checks m t)
+    by_offer : (t : Task) (checks : Outcome) → Numbered checks → (checks ≡ Ok tt → OfferTaken m t) → P (Offer t) (offer_after checks m t)
     unfolding offer_after done
-    by_offer t (Ok _) not_0 taken = on_offer t (taken refl)
-    by_offer t (Err why) not_0 taken = on_refusal (Offer t) why (λ ok. not_0)
+    by_offer t (Ok _) numbered taken = on_offer t (taken refl)
+    by_offer t (Err why) numbered taken = on_refusal (Offer t) why (by_number why (numbered.number_is why refl))
 
     -- a commit, by what the machine holds
     by_held : sound m ≡ true → (held : Option Task) → m.held ≡ held → P Commit (commit_held held m)
     unfolding commit_held refuse done
-    by_held ok None e = on_refusal Commit (refusal NoHeldTask 0) (λ ok. refused_not_0 (refusal NoHeldTask 0) (omega arith))
+    by_held ok None e = on_refusal Commit (refusal NoHeldTask 0) (by_number (refusal NoHeldTask 0) (omega arith))
     by_held ok (Some t) e = on_commit t (record { is_sound = ok; held_is_lem = e; fits = held_fits m ok t e })
 
     -- a task without a gap is closed, as the machine is sound
@@ -151,5 +161,5 @@ module _
         on_slot k (runners m k) (slot_assignment m k) (slot_taken k ok (not-false _ in_range_lem))
     by_call (Offer t) =
         past_0 _ λ ok.
-        by_offer t _ (offer_not_0 m.table m.cores t) λ passes. record { is_sound = ok; passes = passes }
+        by_offer t _ (offer_numbered m.table m.cores t) λ passes. record { is_sound = ok; passes = passes }
     by_call Commit = past_0 _ λ ok. by_held ok m.held refl

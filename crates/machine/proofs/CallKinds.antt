@@ -1,6 +1,6 @@
 -- A call by its kind: it was refused, it was accepted and is no slot (`Silent`: it reports nothing), or it is an accepted slot. Others cite `by_kind` where
 -- it does not matter which call was silent; `by_call` (CallCases.antt) goes by each call.
-use Rattle.std.proofs.Common.{Err, Some}
+use Rattle.std.proofs.Common.{Some}
 use Prim.Native.Nat.{ℕ, suc, ◌-◌, ◌≤◌, ◌<◌}
 use mathlib.Core.Path.{◌≡◌, refl}
 use mathlib.Core.Bool.{Bool, true, false}
@@ -13,11 +13,9 @@ use borrow.Author.Tests.{eqb-false}
 use Rattle.laws.proofs.CaseSplits.{by_equal, not_both, clash}
 use Rattle.tasks.specs.declared.task.Task.{Task}
 use Rattle.tasks.specs.declared.refusals.Refusal.{Refusal}
-use Rattle.tasks.proofs.OutcomeLaws.{Not0}
 use Rattle.tasks.specs.Table.{with_task}
 use Rattle.machine.specs.Machine.{job_at, core_at, with_job, holding}
 use Rattle.machine.specs.Slot.{no_report}
-use Rattle.machine.specs.Sound.{sound}
 use Rattle.machine.specs.Calls.{with_joined, step}
 use Rattle.machine.specs.InTime.{is_slot, is_finish_of, Point, with_offered, point_by}
 use Rattle.machine.specs.declared.machine.Machine.{Machine}
@@ -25,7 +23,7 @@ use Rattle.machine.specs.declared.call.Call.{Call}
 use Rattle.machine.specs.declared.call.Call.TheVariants.{Release, Finish, Slot, Offer, Commit}
 use Rattle.machine.specs.declared.answer.Answer.{Answer}
 use Rattle.machine.proofs.State.{job_other}
-use Rattle.machine.proofs.CallCases.{ReleaseTaken, FinishTaken, SlotTaken, CommitTaken, refused, accepted, slot_answer, after_release, after_finish, by_call}
+use Rattle.machine.proofs.CallCases.{RefusedBy, ReleaseTaken, FinishTaken, SlotTaken, CommitTaken, refused, accepted, slot_answer, after_release, after_finish, by_call}
 use Rattle.machine.proofs.JobSteps.{old_job}
 
 -- the machine's table and what it holds, as a log tells them
@@ -114,7 +112,7 @@ module _ (m : Machine) where
 module _
     (m : Machine)
     (P : Call → Answer → Type 0)
-    (on_refusal : (call : Call) (why : Refusal) → (sound m ≡ true → Not0 (Err why)) → P call (refused m why))
+    (on_refusal : (call : Call) (why : Refusal) → RefusedBy m why → P call (refused m why))
     (on-silent : (call : Call) (m' : Machine) → Silent m call m' → P call (accepted m' no_report))
     (on_slot : (k : ℕ) (ran : List Bool) (assigned : List ℕ) → SlotTaken m k ran assigned → P (Slot k) (slot_answer m ran assigned))
   where

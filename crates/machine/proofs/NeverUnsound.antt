@@ -1,15 +1,15 @@
 -- In every list of calls from a fresh machine no answer is number 0: `never_unsound`. On a sound machine no call is refused by it (`not_unsound`), and
 -- every machine of such a list is sound (SoundKept.antt).
-use Rattle.tasks.specs.Refusals.{refusal}
+use Rattle.tasks.specs.Refusals.{number_of}
 use Rattle.std.proofs.Common.{Ok, Err}
-use Prim.Native.Nat.{ℕ}
+use Prim.Native.Nat.{ℕ, ◌≤◌}
 use mathlib.Core.Path.{◌≡◌}
 use mathlib.Core.Bool.{true}
 use mathlib.Core.List.{List, [], ◌∷◌, ◌++◌}
 use Rattle.laws.proofs.CaseSplits.{clash}
 use Rattle.tasks.specs.declared.table.Table.{Table}
-use Rattle.tasks.specs.declared.refusals.Reason.TheVariants.{UnsoundMachine}
-use Rattle.tasks.proofs.OutcomeLaws.{Not0, done_not_0}
+use Rattle.tasks.specs.declared.refusals.Refusal.{Refusal}
+use Rattle.tasks.proofs.OutcomeLaws.{Not0, done_not_0, refused_not_0}
 use Rattle.machine.specs.Sound.{sound}
 use Rattle.machine.specs.Calls.{start, step}
 use Rattle.machine.specs.Play.{Entry, play}
@@ -21,7 +21,7 @@ use Rattle.machine.proofs.SoundKept.{call_keeps, start_sound}
 pub not_unsound : (m : Machine) → sound m ≡ true → (call : Call) → Not0 (step m call).outcome
 not_unsound m ok =
     by_kind m (λ call answer. Not0 answer.outcome)
-    (λ call why not_0. not_0 ok)
+    (λ call why told. refused_not_0 why (told.some ok))
     (λ call m' silent. done_not_0)
     (λ k ran assigned taken. done_not_0)
 
@@ -43,6 +43,6 @@ each_not_0 (call ∷ calls) m ok (y ∷ before) after e split =
 pub never_unsound :
     (t : Table) (cores : ℕ) → (start t cores).outcome ≡ Ok tt
     → (calls : List Call) (before after : List Entry) (e : Entry) → play (start t cores).machine calls ≡ before ++ e ∷ after
-    → (place : ℕ) → e.outcome ≡ Err (refusal UnsoundMachine place) → ⊥
+    → (why : Refusal) → e.outcome ≡ Err why → 1 ≤ number_of why.reason
 never_unsound t cores starts calls before after e split =
     (each_not_0 calls (start t cores).machine (start_sound t cores starts).is_sound before after e split).other

@@ -1,5 +1,5 @@
--- What the checks of an offer found. Others cite `OfferFits` with `offer_fits`, of an offer that passes them; and `offer_not_0`, that they refuse none by
--- number 0.
+-- What the checks of an offer found. Others cite `OfferFits` with `offer_fits`, of an offer that passes them; and `offer_numbered`, of the numbers by
+-- which they refuse one.
 use Rattle.std.proofs.Common.{Ok, Err}
 use Prim.Native.Nat.{ℕ, ◌<◌}
 use native.Mathlib.Omega.{arith}
@@ -16,9 +16,9 @@ use Rattle.tasks.specs.Refusals.{refusal}
 use Rattle.tasks.specs.Task.{in_range}
 use Rattle.tasks.specs.Table.{with_task}
 use Rattle.tasks.specs.Outcome.{Outcome, first_refusal}
-use Rattle.tasks.proofs.OutcomeLaws.{Not0, done_not_0, refused_not_0, refused_not_done, both_done}
+use Rattle.tasks.proofs.OutcomeLaws.{Numbered, done_numbered, refused_numbered, refused_not_done, both_done}
 use Rattle.judge.specs.SlackJudge.{AdmissionValues, admission_values_of, admission}
-use Rattle.judge.proofs.Admitted.{admission_not_0}
+use Rattle.judge.proofs.Admitted.{admission_numbered}
 use Rattle.machine.specs.Offer.{offer_verdict, offer_checked}
 
 -- an offer that passes: the task is in range, the table has room, and the longer one is judged and admitted
@@ -37,10 +37,10 @@ unfolding first_refusal
 last_admits admits =
     by_cond (λ (o : Outcome). o ≡ Ok tt → admits ≡ true) admits (λ yes e. yes) (λ no. refused_not_done (refusal NotAdmitted 0) (Err (refusal NotAdmitted 0)) refl)
 
-last_not_0 : (verdict : Outcome) (admits : Bool) → Not0 verdict → Not0 (last verdict admits)
+last_numbered : (verdict : Outcome) (admits : Bool) → Numbered verdict → Numbered (last verdict admits)
 unfolding first_refusal
-last_not_0 (Ok _) admits not_0 = by_cond Not0 admits (λ yes. done_not_0) (λ no. refused_not_0 (refusal NotAdmitted 0) (omega arith))
-last_not_0 (Err why) admits not_0 = not_0
+last_numbered (Ok _) admits numbered = by_cond Numbered admits (λ yes. done_numbered) (λ no. refused_numbered (refusal NotAdmitted 0) (omega arith))
+last_numbered (Err why) admits numbered = numbered
 
 module _ (t : Table) (cores : ℕ) (task : Task) where
   -- what holds of the refusal by 5, of that by 12, and past these of the judge's verdict holds of the checks' verdict
@@ -65,10 +65,10 @@ module _ (t : Table) (cores : ℕ) (task : Task) where
       let (judged, admits) = both_done (admission (with_task t task) cores).outcome _ e in
       record { in_range_lem = in_range_lem; room = room; judged = judged; admits = last_admits _ admits })
 
-  pub offer_not_0 : Not0 (offer_checked t cores task)
+  pub offer_numbered : Numbered (offer_checked t cores task)
   unfolding offer_checked admission_values_of first_refusal
-  offer_not_0 =
-      by_checks (λ v. Not0 (last v.outcome v.admits))
-      (refused_not_0 (refusal TaskOutOfRange 0) (omega arith))
-      (refused_not_0 (refusal TableFull 0) (omega arith))
-      (λ in_range_lem room. last_not_0 _ (admission (with_task t task) cores).admits (admission_not_0 (with_task t task) cores))
+  offer_numbered =
+      by_checks (λ v. Numbered (last v.outcome v.admits))
+      (refused_numbered (refusal TaskOutOfRange 0) (omega arith))
+      (refused_numbered (refusal TableFull 0) (omega arith))
+      (λ in_range_lem room. last_numbered _ (admission (with_task t task) cores).admits (admission_numbered (with_task t task) cores))

@@ -1,3 +1,4 @@
+pub mod Small
 pub mod RangesPass
 pub mod WithinLaws
 pub mod QuoteLaws

@@ -5,4 +5,5 @@ pub mod ValueLine
 pub mod ValueLines
 pub mod NumbersRead
 pub mod Long
+pub mod Small
 pub mod CountedLaws

@@ -12,7 +12,7 @@ use Rattle.text.specs.Output.{further_numbers, numbers_line}
 use Rattle.text.proofs.DigitLaws.{text_few}
 use Rattle.tasks.specs.Limits.{max_tasks, max_cores}
 use Rattle.tasks.specs.Refusals.{number_of}
-use Rattle.tasks.proofs.OutcomeLaws.{by_outcome, number_small}
+use Rattle.tasks.proofs.OutcomeLaws.{by_outcome}
 use Rattle.machine.specs.Calls.{step}
 use Rattle.tasks.specs.Flags.{mask}
 use Rattle.machine.specs.declared.machine.Machine.{Machine}
@@ -77,7 +77,7 @@ accepted_few Commit r small = omega arith
 pub few_bytes : (m : Machine) (call : Call) → length (answer_line call (step m call)) ≤ answer_room
 unfolding answer_line outcome_line
 few_bytes m call =
-    let small = (small_answer m call).report in
+    let small = small_answer m call in
     by_outcome (step m call).outcome
-    (λ e. rw e (accepted_few call (step m call).report small))
-    (λ why e. rw e (omega (arith, refused_few (number_of why.reason) (omega (arith, number_small why.reason)))))
+    (λ e. rw e (accepted_few call (step m call).report small.report))
+    (λ why e. rw e (omega (arith, refused_few (number_of why.reason) (omega (arith, small.number why e)))))

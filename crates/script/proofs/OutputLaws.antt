@@ -9,9 +9,6 @@ use Rattle.text.specs.declared.output.Output.{Output}
 use Rattle.text.specs.Output.{put, Holds, further_numbers, numbers_line, refused_line}
 use Rattle.text.proofs.DigitLaws.{text_few}
 use Rattle.text.proofs.Putting.{put_append, put_all}
-use Rattle.tasks.specs.Refusals.{number_of}
-use Rattle.tasks.specs.declared.refusals.Reason.{Reason}
-use Rattle.tasks.proofs.OutcomeLaws.{number_small}
 use Rattle.script.specs.Words.{bad_line_word}
 use Rattle.script.specs.Output.{PutsWithin, bad_line, refusal_room}
 
@@ -35,10 +32,9 @@ unfolding refused_line numbers_line further_numbers
 refused_few n h = simp length-append (omega (arith, text_few 9 n (omega arith)))
 
 pub refused_put :
-    {N : ℕ} (most : ℕ) → refusal_room ≤ most → {a b : Output N} (n : ℕ) (reason : Reason) → n ≡ number_of reason → b ≡ put a (refused_line n)
-    → PutsWithin most a (refused_line (number_of reason)) b
-refused_put most m n reason e p =
-    record { whole = rw e at p; few = omega (arith, refused_few (number_of reason) (omega (arith, number_small reason))) }
+    {N : ℕ} (most : ℕ) → refusal_room ≤ most → {a b : Output N} (n : ℕ) → n < 2 ^ 32 → b ≡ put a (refused_line n)
+    → PutsWithin most a (refused_line n) b
+refused_put most m n h p = record { whole = p; few = omega (arith, refused_few n h) }
 
 pub bad_put :
     {N : ℕ} {a b c : Output N} (n : ℕ) → n < 2 ^ 64 → b ≡ put a bad_line_word → c ≡ put b (numbers_line (n ∷ [])) → PutsWithin refusal_room a (bad_line n) c

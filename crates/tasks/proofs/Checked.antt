@@ -1,5 +1,5 @@
 -- What it takes for a table and a number of cores to pass `checked`: `passes`, and the fields of `Passes`; and `passed`, that these are all. The refusals
--- of those that do not are not number 0: `checked_not_0`.
+-- of those that do not have numbers of 1 or 2 digits, and none is number 0: `checked_numbered`.
 use Prim.Native.Nat.{ℕ, zero, suc, ◌+◌, ◌≤◌, ◌<◌}
 use native.Mathlib.Omega.{arith}
 use mathlib.Core.Path.{◌≡◌, refl}
@@ -21,7 +21,7 @@ use Rattle.tasks.specs.declared.table.Table.{Table}
 use Rattle.tasks.specs.declared.refusals.Refusal.{Refusal}
 use Rattle.tasks.specs.declared.refusals.Reason.TheVariants.{TooManyTasks, NoTask, TaskOutOfRange, CoresOutOfRange}
 use Rattle.std.proofs.Common.{Ok, Err}
-use Rattle.tasks.proofs.OutcomeLaws.{past_test, Not0, done_not_0, refused_not_0}
+use Rattle.tasks.proofs.OutcomeLaws.{past_test, Numbered, done_numbered, refused_numbered}
 
 pub record Passes (t : Table) (m : ℕ) : Type 0 where
   pub count_some : 1 ≤ t.count
@@ -77,15 +77,16 @@ passed t m fit =
       le-leb m max_cores fit.cores_fit,
     )
 
--- past a test that refuses by another number
-other_test : (test : Bool) (why : Refusal) {o : Outcome} → 1 ≤ number_of why.reason → Not0 o → Not0 (cond test (Err why) o)
-other_test test why h rest = by_cond Not0 test (λ yes. refused_not_0 why h) (λ no. rest)
+-- past a test that refuses by such a number
+other_test :
+    (test : Bool) (why : Refusal) {o : Outcome} → (1 ≤ number_of why.reason) × (number_of why.reason < 100) → Numbered o → Numbered (cond test (Err why) o)
+other_test test why h rest = by_cond Numbered test (λ yes. refused_numbered why h) (λ no. rest)
 
-pub checked_not_0 : (t : Table) (m : ℕ) → Not0 (checked t m)
+pub checked_numbered : (t : Table) (m : ℕ) → Numbered (checked t m)
 unfolding checked
-checked_not_0 t m =
+checked_numbered t m =
     let place = first_out_of_range t.tasks 0 t.count in
     other_test (ltb max_tasks t.count) (refusal TooManyTasks (max_tasks + 1)) (omega arith)
     (other_test (eqb t.count 0) (refusal NoTask 0) (omega arith)
     (other_test (not (eqb place 0)) (refusal TaskOutOfRange place) (omega arith)
-    (other_test (not (cores_in_range m)) (refusal CoresOutOfRange 0) (omega arith) done_not_0)))
+    (other_test (not (cores_in_range m)) (refusal CoresOutOfRange 0) (omega arith) done_numbered)))

@@ -2,6 +2,7 @@ pub mod Checked
 pub mod Range
 pub mod TaskSetLaws
 pub mod OutcomeLaws
+pub mod Small
 pub mod Numbers
 pub mod Made
 pub mod MaskLaws

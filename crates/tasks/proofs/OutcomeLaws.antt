@@ -1,12 +1,13 @@
 -- What an outcome says where the call was carried out: `done_where_true`, `past_test`, that no test refused it, and `both_done`, of two tests in turn. Of one that is
--- not number 0, `Not0`: `done_not_0` and `refused_not_0`. Refusal numbers are small: `number_small`. `by_outcome` goes by the outcome.
-use Rattle.std.proofs.Common.{ℕ, ◌≤◌, ◌≡◌, refl, Bool, true, false, cond, Ok, Err, arith}
+-- not number 0, `Not0`: `done_not_0` and `refused_not_0`. Of the numbers that refusals have, `Numbered`: `done_numbered` and `refused_numbered`; and `number_small`.
+-- `by_outcome` goes by the outcome.
+use Rattle.std.proofs.Common.{◌≤◌, ◌<◌, ◌≡◌, refl, Bool, true, false, cond, Ok, Err, arith}
 use Rattle.laws.proofs.CaseSplits.{not_both, by_cond, clash}
 use Rattle.tasks.specs.declared.refusals.Reason.{Reason}
 use Rattle.tasks.specs.declared.refusals.Reason.TheVariants.{UnsoundMachine, TextTooLong, BadNamesLine, TooManyTasks, BadValueLine, TaskOutOfRange, NoTask, CoresOutOfRange, NoSuchTask, ReleasedTooSoon, JobStillOpen, JobNotOpen, TableFull, NotAdmitted, SlotCoresOutOfRange, NeedOutOfRange, LeastAboveMost, NoHeldTask, BadLogLine}
 use Rattle.tasks.specs.declared.refusals.Refusal.{Refusal}
 use Rattle.tasks.specs.Outcome.{Outcome, is_done, first_refusal}
-use Rattle.tasks.specs.Refusals.{number_of, refusal}
+use Rattle.tasks.specs.Refusals.{number_of}
 
 pub by_outcome : {A : Type 0} (o : Outcome) → (o ≡ Ok tt → A) → ((why : Refusal) → o ≡ Err why → A) → A
 by_outcome (Ok _) f g = f refl
@@ -29,15 +30,25 @@ unfolding first_refusal
 both_done (Ok _) b e = (refl, e)
 both_done (Err why) b e = clash cc
 
--- the outcome is not number 0
+-- if it is a refusal, its number is not 0
 pub record Not0 (o : Outcome) : Type 0 where
-  pub other : (place : ℕ) → o ≡ Err (refusal UnsoundMachine place) → ⊥
+  pub other : (why : Refusal) → o ≡ Err why → 1 ≤ number_of why.reason
 
 pub done_not_0 : Not0 (Ok tt)
-done_not_0 = record { other = λ place e. clash cc }
+done_not_0 = record { other = λ why e. clash cc }
 
 pub refused_not_0 : (why : Refusal) → 1 ≤ number_of why.reason → Not0 (Err why)
-refused_not_0 why some = record { other = λ at e. let zero : why.reason ≡ UnsoundMachine = cc in let none : number_of why.reason ≡ 0 = rw zero in omega arith }
+refused_not_0 why some = record { other = λ other e. let same : why ≡ other = cc in rw (← same) some }
+
+-- if it is a refusal, its number is not 0 and has at most two digits
+pub record Numbered (o : Outcome) : Type 0 where
+  pub number_is : (why : Refusal) → o ≡ Err why → (1 ≤ number_of why.reason) × (number_of why.reason < 100)
+
+pub done_numbered : Numbered (Ok tt)
+done_numbered = record { number_is = λ why e. clash cc }
+
+pub refused_numbered : (why : Refusal) → (1 ≤ number_of why.reason) × (number_of why.reason < 100) → Numbered (Err why)
+refused_numbered why h = record { number_is = λ other e. let same : why ≡ other = cc in rw (← same) h }
 
 -- each number has at most two digits
 pub number_small : (reason : Reason) → number_of reason ≤ 18

@@ -14,4 +14,4 @@ returns-in-Ok-Offends c =
 
 pub returns-in-Err : goal.returns-in-Err
 returns-in-Err c =
-    rw c.in-Err.is (refused_put _ _ (search rules) c.number.ensures c.put-in-Err.ensures c.put_numbers-in-Err.ensures)
+    rw c.in-Err.is (refused_put _ _ (search rules) (search rules) c.number.ensures c.put-in-Err.ensures c.put_numbers-in-Err.ensures)

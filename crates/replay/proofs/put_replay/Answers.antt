@@ -5,7 +5,6 @@ use Rattle.laws.proofs.Parts.{past, from_drop, from_length}
 use Rattle.script.specs.declared.word_line.WordLine.{WordLine}
 use Rattle.script.proofs.OutputLaws.{within_more, refused_put}
 use Rattle.script.proofs.WordLineLaws.{Within, found_within}
-use Rattle.tasks.specs.declared.refusals.Reason.TheVariants.{TextTooLong}
 use Rattle.script.specs.WordLine.{word_line}
 use Rattle.replay.specs.Words.{calls_word}
 use Rattle.replay.specs.Script.{max_script_length, printed_after_cores, printed, room}
@@ -36,7 +35,7 @@ pub returns-then-script-gt-MAX_SCRIPT_LENGTH : goal.returns-then-script-gt-MAX_S
 unfolding printed
 returns-then-script-gt-MAX_SCRIPT_LENGTH c =
     rw (lt-ltb _ _ c.if-script-gt-MAX_SCRIPT_LENGTH.true)
-    (refused_put _ (omega arith) _ TextTooLong c.number.ensures c.put_refused.ensures)
+    (refused_put _ (omega arith) 1 (omega arith) (rw c.number.ensures at c.put_refused.ensures))
 
 pub returns-then-script-length : goal.returns-then-script-length
 returns-then-script-length c =
