@@ -3,6 +3,7 @@ pub mod Range
 pub mod TaskSetLaws
 pub mod OutcomeLaws
 pub mod Small
+pub mod Reasons
 pub mod Numbers
 pub mod Made
 pub mod MaskLaws

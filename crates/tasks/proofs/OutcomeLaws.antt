@@ -1,10 +1,10 @@
 -- What an outcome says where the call was carried out: `done_where_true`, `past_test`, that no test refused it, and `both_done`, of two tests in turn. Of one that is
 -- not number 0, `Not0`: `done_not_0` and `refused_not_0`. Of the numbers that refusals have, `Numbered`: `done_numbered` and `refused_numbered`; and `number_small`.
 -- `by_outcome` goes by the outcome.
-use Rattle.std.proofs.Common.{◌≤◌, ◌<◌, ◌≡◌, refl, Bool, true, false, cond, Ok, Err, arith}
+use Rattle.std.proofs.Common.{ℕ, ◌≤◌, ◌<◌, ◌≡◌, refl, Bool, true, false, cond, Ok, Err, arith}
 use Rattle.laws.proofs.CaseSplits.{not_both, by_cond, clash}
 use Rattle.tasks.specs.declared.refusals.Reason.{Reason}
-use Rattle.tasks.specs.declared.refusals.Reason.TheVariants.{UnsoundMachine, TextTooLong, BadNamesLine, TooManyTasks, BadValueLine, TaskOutOfRange, NoTask, CoresOutOfRange, NoSuchTask, ReleasedTooSoon, JobStillOpen, JobNotOpen, TableFull, NotAdmitted, SlotCoresOutOfRange, NeedOutOfRange, LeastAboveMost, NoHeldTask, BadLogLine}
+use Rattle.tasks.specs.declared.refusals.Reason.TheVariants.{UnsoundMachine, TextTooLong, BadNamesLine, TooManyTasks, BadValueLine, TaskOutOfRange, NoTask, CoresOutOfRange, NoSuchTask, ReleasedTooSoon, JobStillOpen, JobNotOpen, TableFull, NotAdmitted, SlotCoresOutOfRange, NeedOutOfRange, LeastAboveMost, NoHeldTask, BadLogLine, Unlisted}
 use Rattle.tasks.specs.declared.refusals.Refusal.{Refusal}
 use Rattle.tasks.specs.Outcome.{Outcome, is_done, first_refusal}
 use Rattle.tasks.specs.Refusals.{number_of}
@@ -50,24 +50,25 @@ done_numbered = record { number_is = λ why e. clash cc }
 pub refused_numbered : (why : Refusal) → (1 ≤ number_of why.reason) × (number_of why.reason < 100) → Numbered (Err why)
 refused_numbered why h = record { number_is = λ other e. let same : why ≡ other = cc in rw (← same) h }
 
--- each number has at most two digits
-pub number_small : (reason : Reason) → number_of reason ≤ 18
-number_small UnsoundMachine = omega arith
-number_small TextTooLong = omega arith
-number_small BadNamesLine = omega arith
-number_small TooManyTasks = omega arith
-number_small BadValueLine = omega arith
-number_small TaskOutOfRange = omega arith
-number_small NoTask = omega arith
-number_small CoresOutOfRange = omega arith
-number_small NoSuchTask = omega arith
-number_small ReleasedTooSoon = omega arith
-number_small JobStillOpen = omega arith
-number_small JobNotOpen = omega arith
-number_small TableFull = omega arith
-number_small NotAdmitted = omega arith
-number_small SlotCoresOutOfRange = omega arith
-number_small NeedOutOfRange = omega arith
-number_small LeastAboveMost = omega arith
-number_small NoHeldTask = omega arith
-number_small BadLogLine = omega arith
+-- each number that the documents list has at most two digits
+pub number_small : (reason : Reason) → ((number : ℕ) → reason ≡ Unlisted number → ⊥) → number_of reason ≤ 18
+number_small UnsoundMachine is_listed = omega arith
+number_small TextTooLong is_listed = omega arith
+number_small BadNamesLine is_listed = omega arith
+number_small TooManyTasks is_listed = omega arith
+number_small BadValueLine is_listed = omega arith
+number_small TaskOutOfRange is_listed = omega arith
+number_small NoTask is_listed = omega arith
+number_small CoresOutOfRange is_listed = omega arith
+number_small NoSuchTask is_listed = omega arith
+number_small ReleasedTooSoon is_listed = omega arith
+number_small JobStillOpen is_listed = omega arith
+number_small JobNotOpen is_listed = omega arith
+number_small TableFull is_listed = omega arith
+number_small NotAdmitted is_listed = omega arith
+number_small SlotCoresOutOfRange is_listed = omega arith
+number_small NeedOutOfRange is_listed = omega arith
+number_small LeastAboveMost is_listed = omega arith
+number_small NoHeldTask is_listed = omega arith
+number_small BadLogLine is_listed = omega arith
+number_small (Unlisted number) is_listed = absurd (is_listed number refl)

@@ -1,8 +1,8 @@
 -- Why a call is not carried out, and the numbers of document 01, "Why a call is not carried out", and of document 02's changes; by its change 3 the number 10 "stays
 -- empty".
-use Rattle.std.specs.Prelude.{ℕ}
+use Rattle.std.specs.Prelude.{ℕ, List, [], ◌∷◌, get_or}
 use Rattle.tasks.specs.declared.refusals.Reason.{Reason}
-use Rattle.tasks.specs.declared.refusals.Reason.TheVariants.{UnsoundMachine, TextTooLong, BadNamesLine, TooManyTasks, BadValueLine, TaskOutOfRange, NoTask, CoresOutOfRange, NoSuchTask, ReleasedTooSoon, JobStillOpen, JobNotOpen, TableFull, NotAdmitted, SlotCoresOutOfRange, NeedOutOfRange, LeastAboveMost, NoHeldTask, BadLogLine}
+use Rattle.tasks.specs.declared.refusals.Reason.TheVariants.{UnsoundMachine, TextTooLong, BadNamesLine, TooManyTasks, BadValueLine, TaskOutOfRange, NoTask, CoresOutOfRange, NoSuchTask, ReleasedTooSoon, JobStillOpen, JobNotOpen, TableFull, NotAdmitted, SlotCoresOutOfRange, NeedOutOfRange, LeastAboveMost, NoHeldTask, BadLogLine, Unlisted}
 use Rattle.tasks.specs.declared.refusals.Refusal.{Refusal}
 
 -- the number of each
@@ -45,6 +45,36 @@ number_of LeastAboveMost = 16
 number_of NoHeldTask = 17
 -- change 11: "A broken names line or value line, or a value above 4,294,967,295: number 18"
 number_of BadLogLine = 18
+-- none of these
+number_of (Unlisted number) = number
+
+-- the reasons that the documents list, each at its number
+unfoldable pub listed : List Reason
+listed =
+    UnsoundMachine
+    ∷ TextTooLong
+    ∷ BadNamesLine
+    ∷ TooManyTasks
+    ∷ BadValueLine
+    ∷ TaskOutOfRange
+    ∷ NoTask
+    ∷ CoresOutOfRange
+    ∷ NoSuchTask
+    ∷ ReleasedTooSoon
+    ∷ JobStillOpen
+    ∷ JobNotOpen
+    ∷ TableFull
+    ∷ NotAdmitted
+    ∷ SlotCoresOutOfRange
+    ∷ NeedOutOfRange
+    ∷ LeastAboveMost
+    ∷ NoHeldTask
+    ∷ BadLogLine
+    ∷ []
+
+-- the reason for a number: the listed one, or one that tells no more than the number
+unfoldable pub reason_of : ℕ → Reason
+reason_of number = get_or listed number (Unlisted number)
 
 -- the refusal for a reason, with the value line or task that it concerns, or 0
 abbrev pub refusal : Reason → ℕ → Refusal
