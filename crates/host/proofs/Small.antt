@@ -23,4 +23,4 @@ pub answer_small : (text : List ℕ) (m : ℕ) → host_answer text m ≤ 107
 unfolding host_answer
 answer_small text m =
     let table = (reading text).table in
-    after_small (reading text).outcome (admission table m) (reading_below text) (rw (admission_outcome table m) (checked_below table m))
+    after_small (reading text).outcome _ (reading_below text) (rw (admission_outcome table m) (checked_below table m))
