@@ -20,7 +20,7 @@ pub enum Test {
 }
 
 // Room for what is printed, in contracts `room`.
-const OUTPUT_ROOM: usize = 160;
+pub const OUTPUT_ROOM: usize = 160;
 
 // Where what is printed is put together.
 pub type Printed = Output<OUTPUT_ROOM>;

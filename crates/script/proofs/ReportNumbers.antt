@@ -3,16 +3,16 @@
 use Prim.Native.Nat.{ℕ, ◌+◌, ◌≤◌, ◌<◌}
 use native.Mathlib.Numerals.{add-one}
 use native.Mathlib.Omega.{arith}
-use mathlib.Core.Path.{◌≡◌, sym, ◌∙◌}
+use mathlib.Core.Path.{◌≡◌, refl, sym, ◌∙◌}
 use mathlib.Core.Bool.{Bool, true, false}
 use mathlib.Core.List.{List, [], ◌∷◌, ◌++◌, append-nil, append_assoc}
 use lib.ListN.{length, get_or, set, take, length-set}
 use lib.Seq.{take-suc-set}
-use Rattle.text.specs.Output.{numbers_line}
+use Rattle.laws.proofs.CaseSplits.{clash}
 use Rattle.tasks.specs.Limits.{max_tasks}
 use Rattle.tasks.specs.Flags.{mask}
 use Rattle.machine.specs.declared.answer.Report.{Report}
-use Rattle.script.specs.Output.{runner_cores, report_line}
+use Rattle.script.specs.Output.{runner_cores, report_line, ListsReport}
 
 -- between two tasks: the array's first n numbers are the first four of another and the cores of the runners among the first i tasks
 pub record Listing (first : List ℕ) (ran : List Bool) (assigned a : List ℕ) (n i : ℕ) : Type 0 where
@@ -45,8 +45,19 @@ module _ (first : List ℕ) (ran : List Bool) (assigned : List ℕ) where
     list_other e =
         record { within = omega arith; few = omega (arith, p.few); size = p.size; listed = rw (add-one i, e, append-nil) p.listed }
 
+-- what was stored in an array's first four places
+four_first : (a : List ℕ) (x y z w : ℕ) → length a ≡ 4 + max_tasks → take 4 (set (set (set (set a 0 x) 1 y) 2 z) 3 w) ≡ x ∷ y ∷ z ∷ w ∷ []
+four_first (o ∷ p ∷ q ∷ r ∷ a) x y z w e = refl
+four_first [] x y z w e = clash cc
+four_first (o ∷ []) x y z w e = clash cc
+four_first (o ∷ p ∷ []) x y z w e = clash cc
+four_first (o ∷ p ∷ q ∷ []) x y z w e = clash cc
+
 pub list_all :
-    (r : Report) (ran finished late : ℕ) (others a : List ℕ) (n i : ℕ) → ran ≡ mask r.ran → finished ≡ mask r.finished → late ≡ mask r.late
-    → Listing (ran ∷ finished ∷ late ∷ r.runners ∷ others) r.ran r.assigned a n i → max_tasks ≤ i → numbers_line (take n a) ≡ report_line r
+    (r : Report) (first a : List ℕ) (ran finished late n i : ℕ) → length first ≡ 4 + max_tasks → ran ≡ mask r.ran
+    → finished ≡ mask r.finished → late ≡ mask r.late
+    → Listing (set (set (set (set first 0 ran) 1 finished) 2 late) 3 r.runners) r.ran r.assigned a n i → max_tasks ≤ i → ListsReport r a n
 unfolding report_line
-list_all r ran finished late others a n i x y z p h = let e : i ≡ max_tasks = omega (arith, p.within) in rw (p.listed, e, x, y, z)
+list_all r first a ran finished late n i size x y z p h =
+    let e : i ≡ max_tasks = omega (arith, p.within) in
+    record { within = omega (arith, p.few, e); line = rw (p.listed, four_first first ran finished late r.runners size, e, x, y, z) }

@@ -1,7 +1,7 @@
 -- What is printed for a call (docs/HANDBOOK.md, "Replaying calls"): "Output, one line per call, each ended by byte 10".
-use Rattle.std.specs.Prelude.{ℕ, zero, suc, ◌+◌, ◌*◌, ◌≤◌, ◌≡◌, Bool, false, cond, List, [], ◌∷◌, ◌++◌, length, get_or, Ok, Err}
+use Rattle.std.specs.Prelude.{ℕ, zero, suc, ◌+◌, ◌*◌, ◌≤◌, ◌≡◌, Bool, false, cond, List, [], ◌∷◌, ◌++◌, length, get_or, take, Ok, Err}
 use Rattle.text.specs.Lines.{line_end}
-use Rattle.text.specs.Output.{put, numbers_line, refused_line}
+use Rattle.text.specs.Output.{PutAt, put, numbers_line, refused_line}
 use Rattle.text.specs.declared.output.Output.{Output}
 use Rattle.tasks.specs.Limits.{max_tasks, max_cores}
 use Rattle.tasks.specs.Outcome.{Outcome}
@@ -56,3 +56,13 @@ answer_room = 4 * (10 + 1) + max_cores * (2 + 1)
 pub record PutsWithin {N : ℕ} (most : ℕ) (before : Output N) (text : List ℕ) (after : Output N) : Type 0 where
   pub whole : after ≡ put before text
   pub few : length text ≤ most
+
+-- such a text was put after the first `used` bytes of an array
+pub record PutAtWithin (most : ℕ) (before : List ℕ) (used : ℕ) (text after : List ℕ) (r : ℕ) : Type 0 where
+  pub whole : PutAt before used text after r
+  pub few : length text ≤ most
+
+-- the first n numbers of an array are those of a report's line
+pub record ListsReport (r : Report) (array : List ℕ) (n : ℕ) : Type 0 where
+  pub within : n ≤ 4 + max_tasks
+  pub line : numbers_line (take n array) ≡ report_line r

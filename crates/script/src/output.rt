@@ -1,13 +1,14 @@
-// The lines of the output.
+// The lines of the output. Each is put in an `Output`, or after the first `used` bytes of a lent array: what puts it there answers how many bytes the array
+// then holds.
 ghost use Rattle.std.specs.Prelude.{◌≡◌};
-ghost use Rattle.text.specs.Output.{put};
-ghost use Rattle.script.specs.Output.{PutsWithin, bad_line, report_line, answer_line, refusal_room};
+ghost use Rattle.text.specs.Output.{PutAt, put};
+ghost use Rattle.script.specs.Output.{PutsWithin, PutAtWithin, ListsReport, bad_line, answer_line, refusal_room};
 
 use machine::answer::{Answer, Report};
 use machine::call::Call;
 use tasks::flags::mask;
 use tasks::limits::{MAX_CORES, MAX_TASKS};
-use text::output::Output;
+use text::output::{Output, put, put_numbers, put_refused};
 
 // Room for a line REFUSED or BAD LINE, in contracts `refusal_room`.
 pub const REFUSAL_ROOM: usize = 32;
@@ -23,11 +24,22 @@ pub fn put_bad_line<const N: usize>(output: &mut Output<N>, line: usize)
     output.put_numbers(&[line as u64]);
 }
 
-// The tasks that ran, finished and were late in a slot, the number of runners, and the core of each runner.
-fn put_report<const N: usize>(output: &mut Output<N>, report: Report)
-    ensures { output.new ≡ put output.old (report_line report) }
+// The same line in a lent array.
+pub fn put_bad_line_at(output: &mut [u8], used: usize, line: usize) -> usize
+    ensures { PutAtWithin refusal_room output.old used (bad_line line) output.new result }
 {
-    let mut numbers = [0u64; 4 + MAX_TASKS];
+    let at = put(output, used, b"BAD LINE ");
+    put_numbers(output, at, &[line as u64])
+}
+
+// The most numbers of a report's line: four, and the core of each task.
+const REPORT_NUMBERS: usize = 4 + MAX_TASKS;
+
+// Lists the numbers of a report's line, and answers how many these are: the tasks that ran, finished and were late in a slot, the number of runners, and the
+// core of each runner. The array is lent, since an answer of its size would be copied.
+fn list_report(numbers: &mut [u64; REPORT_NUMBERS], report: Report) -> usize
+    ensures { ListsReport report numbers.new result }
+{
     numbers[0] = mask(report.ran);
     numbers[1] = mask(report.finished);
     numbers[2] = mask(report.late);
@@ -39,7 +51,7 @@ fn put_report<const N: usize>(output: &mut Output<N>, report: Report)
             n += 1;
         }
     }
-    output.put_numbers(&numbers[..n]);
+    n
 }
 
 // The line of a call's answer.
@@ -49,7 +61,27 @@ pub fn put_answer<const N: usize>(output: &mut Output<N>, call: Call, answer: An
 {
     match (answer.outcome, call) {
         (Err(refusal), _) => output.put_refused(refusal.reason.number()),
-        (Ok(()), Call::Slot(_)) => put_report(output, answer.report),
+        (Ok(()), Call::Slot(_)) => {
+            let mut numbers = [0u64; REPORT_NUMBERS];
+            let n = list_report(&mut numbers, answer.report);
+            output.put_numbers(&numbers[..n]);
+        }
         (Ok(()), _) => output.put(b"DONE\n"),
+    }
+}
+
+// The same line in a lent array.
+#[tactic(auto, unfolding(crate::specs::Output::answer_line, crate::specs::Output::outcome_line, crate::specs::Output::accepted_line))]
+pub fn put_answer_at(output: &mut [u8], used: usize, call: Call, answer: Answer) -> usize
+    ensures { PutAt output.old used (answer_line call answer) output.new result }
+{
+    match (answer.outcome, call) {
+        (Err(refusal), _) => put_refused(output, used, refusal.reason.number()),
+        (Ok(()), Call::Slot(_)) => {
+            let mut numbers = [0u64; REPORT_NUMBERS];
+            let n = list_report(&mut numbers, answer.report);
+            put_numbers(output, used, &numbers[..n])
+        }
+        (Ok(()), _) => put(output, used, b"DONE\n"),
     }
 }

@@ -1,17 +1,18 @@
-use Rattle.std.proofs.Common.{arith, refl, ◌∙◌}
+use Rattle.std.proofs.Common.{arith}
+use lib.ListN.{length-set}
 use Rattle.script.proofs.ReportNumbers.{list_none, list_runner, list_other, list_all}
-use Rattle.script.proofs.output.put_report.Goals as goal
-use Rattle.script.proofs.output.put_report.Goals.{then-report-i, else-report-i}
+use Rattle.script.proofs.output.list_report.Goals as goal
+use Rattle.script.proofs.output.list_report.Goals.{then-report-i, else-report-i}
 
 pub loop-i-init : goal.loop-i-init
-loop-i-init g c = list_none _ _ _ refl
+loop-i-init c = list_none _ _ _ (simp length-set c.told-numbers)
 
 pub loop-i-preserved : goal.loop-i-preserved
-loop-i-preserved g c =
+loop-i-preserved c =
     elim c.if-report-i.branch [
       | then-report-i w ↦ rw (w.numbers-is, w.n-is) (list_runner _ _ _ _ _ _ c.loop-i.invariant (omega arith) w.if-report-i.true)
       | else-report-i w ↦ rw (w.numbers-is, w.n-is) (list_other _ _ _ _ _ _ c.loop-i.invariant (omega arith) w.if-report-i.false)
     ]
 
 pub returns : goal.returns
-returns g c = c.put_numbers.ensures ∙ rw (list_all c.args.report _ _ _ _ _ _ _ c.mask.ensures c.mask-2.ensures c.mask-3.ensures c.loop-i.invariant c.loop-i-test.false)
+returns c = list_all c.args.report _ _ _ _ _ _ _ c.told-numbers c.mask.ensures c.mask-2.ensures c.mask-3.ensures c.loop-i.invariant c.loop-i-test.false
