@@ -131,9 +131,10 @@ impl Auditor {
         let Some(values) = read_line(line) else {
             return self.ended_by(Err(self.broken_line()));
         };
-        let Some(after) = take_line(self.machine, values) else {
+        let mut after = self.machine;
+        if !take_line(&mut after, values) {
             return self.ended_by(Ok(Audit::Offends(self.line)));
-        };
+        }
         self.on_next_line(after)
     }
 

@@ -34,38 +34,40 @@ fn take_calls<F: Fn(Machine, usize) -> Answer>(machine: &mut Machine, value: u32
     true
 }
 
-// The machine after a line, where it takes the line's releases, each of the whole budget, its finishes, and then its running, which has to go by the rules.
-pub(crate) fn take_line(machine: Machine, line: LogLine) -> Option<Machine>
-    ensures { result ≡ line_judged machine line }
+// Whether a machine takes a line: its releases, each of the whole budget, its finishes, and then its running, which has to go by the rules. It is then the
+// machine after the line.
+pub(crate) fn take_line(machine: &mut Machine, line: LogLine) -> bool
+    ensures { line_judged machine.old line ≡ cond result (Some machine.new) None }
 {
-    let mut after = machine;
+    let table = machine.table;
     let released = take_calls(
-        &mut after,
+        machine,
         line.released,
         |open, i|
             requires { i < max_tasks }
-        { open.release(i as u32 + 1, machine.table.tasks[i].budget) },
+        { open.release(i as u32 + 1, table.tasks[i].budget) },
     );
     if !released {
-        return None;
+        return false;
     }
     let finished = take_calls(
-        &mut after,
+        machine,
         line.finished,
         |open, i|
             requires { i < max_tasks }
         { open.finish(i as u32 + 1) },
     );
     if !finished {
-        return None;
+        return false;
     }
     let ran = flags_of(line.ran);
-    let answer = after.slot_with(ran);
+    let answer = machine.slot_with(ran);
     let Ok(()) = answer.outcome else {
-        return None;
+        return false;
     };
-    if !legal_run(after, ran) {
-        return None;
+    if !legal_run(*machine, ran) {
+        return false;
     }
-    Some(answer.machine)
+    *machine = answer.machine;
+    true
 }

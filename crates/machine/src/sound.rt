@@ -32,8 +32,8 @@ impl Machine {
         self.offer_verdict(task).unwrap_or(false)
     }
 
-    // Whether a start would take its table and its cores, every job is sound, and so are the recorded cores and the held task. A `match` and no closure over
-    // the machine, whose borrow would copy it at each call.
+    // Whether a start would take its table and its cores, every job is sound, and so are the recorded cores and the held task. A borrow
+    // of the machine would copy it at each call: so the recorded cores are copied first, and the held task is met by a `match` and no closure.
     #[tactic(auto, using(crate::proofs::SoundLaws::checked_fits), unfolding(crate::specs::Sound::sound, crate::specs::Offer::held_sound, tasks::specs::Outcome::is_done))]
     pub fn is_sound(self) -> bool
         ensures { result ≡ sound self }
@@ -41,8 +41,9 @@ impl Machine {
         if check(self.table, self.cores).is_err() {
             return false;
         }
+        let recorded = self.assigned;
         self.jobs_sound()
-            && cores_sound(&self.assigned[..self.table.count])
+            && cores_sound(&recorded[..self.table.count])
             && match self.held {
                 None => true,
                 Some(task) => self.takes_offer(task),

@@ -13,9 +13,9 @@ use Rattle.auditing.proofs.judging.take_line.Goals.{After-take_calls-released, A
 -- what the closures answer is what the machine answers to the calls of the definition
 releases :
     (c : After-take_calls-released)
-    → after_calls c.args.machine (releases_of c.args.machine c.args.line) ≡ cond c.take_calls-released.result (Some c.take_calls-released.new.machine) None
+    → after_calls c.args.machine.now (releases_of c.args.machine.now c.args.line) ≡ cond c.take_calls-released.result (Some c.take_calls-released.new.machine) None
 unfolding release_at zero_task step
-releases c = c.take_calls-released.ensures (release_at c.args.machine.table) (λ m i answer h p. search rules)
+releases c = c.take_calls-released.ensures (release_at c.args.machine.now.table) (λ m i answer h p. search rules)
 
 finishes :
     (c : After-take_calls-finished)
@@ -27,7 +27,7 @@ finishes c = c.take_calls-finished.ensures finish_at (λ m i answer h p. search 
 -- all releases were taken, and all finishes
 released :
     (c : After-take_calls-released) → c.take_calls-released.result ≡ true
-    → Some c.take_calls-released.new.machine ≡ after_calls c.args.machine (releases_of c.args.machine c.args.line)
+    → Some c.take_calls-released.new.machine ≡ after_calls c.args.machine.now (releases_of c.args.machine.now c.args.line)
 released c e = sym (rw e at (releases c))
 
 finished :
@@ -42,21 +42,23 @@ running c = c.slot_with-answer.ensures ∙ ap (slot_with _) c.flags_of-ran.ensur
 pub returns-then-not-released : goal.returns-then-not-released
 returns-then-not-released c =
     let at = goal.at.returns-then-not-released c in
-    release_refused _ _ (sym (rw c.if-not-released.true at (releases at.After-take_calls-released)))
+    sym (release_refused _ _ (sym (rw c.if-not-released.true at (releases at.After-take_calls-released))))
 
 pub returns-then-not-finished : goal.returns-then-not-finished
 returns-then-not-finished c =
     let at = goal.at.returns-then-not-finished c in
-    finish_refused _ _ _ (released at.After-take_calls-released c.if-not-released.false)
-    (sym (rw c.if-not-finished.true at (finishes at.After-take_calls-finished)))
+    sym
+    (finish_refused _ _ _ (released at.After-take_calls-released c.if-not-released.false)
+    (sym (rw c.if-not-finished.true at (finishes at.After-take_calls-finished))))
 
 pub returns-in_default : goal.returns-in_default
 returns-in_default c =
     let at = goal.at.returns-in_default c in
     let ran = at.After-slot_with-answer in
-    running_refused _ _ _ (released at.After-take_calls-released c.if-not-released.false) _
+    sym
+    (running_refused _ _ _ (released at.After-take_calls-released c.if-not-released.false) _
     (finished at.After-take_calls-finished c.if-not-finished.false) _
-    (ap (λ (a : Answer). a.outcome) (sym (running ran)) ∙ c.in_default.is)
+    (ap (λ (a : Answer). a.outcome) (sym (running ran)) ∙ c.in_default.is))
 
 pub legal_run-requires : goal.legal_run-requires
 unfolding is_done
@@ -68,17 +70,19 @@ pub returns-then-not-legal_run : goal.returns-then-not-legal_run
 returns-then-not-legal_run c =
     let at = goal.at.returns-then-not-legal_run c in
     let ran = at.After-slot_with-answer in
-    against_the_rules _ _ _ (released at.After-take_calls-released c.if-not-released.false) _
+    sym
+    (against_the_rules _ _ _ (released at.After-take_calls-released c.if-not-released.false) _
     (finished at.After-take_calls-finished c.if-not-finished.false)
     (ap (λ (a : Answer). a.outcome) (sym (running ran)) ∙ c.in-Ok.is)
-    (rw (← c.flags_of-ran.ensures) (sym c.if-not-legal_run.ensures))
+    (rw (← c.flags_of-ran.ensures) (sym c.if-not-legal_run.ensures)))
 
 pub returns : goal.returns
 returns c =
     let at = goal.at.returns c in
     let ran = at.After-slot_with-answer in
     rw (running ran)
+    (sym
     (by_the_rules _ _ _ (released at.After-take_calls-released c.if-not-released.false) _
     (finished at.After-take_calls-finished c.if-not-finished.false)
     (ap (λ (a : Answer). a.outcome) (sym (running ran)) ∙ c.in-Ok.is)
-    (rw (← c.flags_of-ran.ensures) (sym c.if-not-legal_run.ensures)))
+    (rw (← c.flags_of-ran.ensures) (sym c.if-not-legal_run.ensures))))
